@@ -1,0 +1,59 @@
+-- A packet's number and its bytes: each determines the other.
+use mathlib.Core.Path.{_≡_, refl, sym, ap, ap₂, _∙_}
+use mathlib.Core.List.{List, [], _∷_, _++_}
+use Prim.Native.Nat.{ℕ, zero, suc, _+_, _-_, _*_, _/_, _%_, _^_, _<_, _≤_}
+use native.Mathlib.Omega.{arith}
+use native.Mathlib.Nat.{mod-one, pow-suc}
+use lib.Arith.{mod-mul}
+use lib.ListN.{length, getD, take, drop, length-append}
+use lib.Seq.{take-suc, take-length}
+use Rattle.packet.specs.Packet.{Bytes, polynomial, polynomialAfter, bytes}
+
+polynomialAfter-snoc : (v : ℕ) (s : List ℕ) (b : ℕ) → polynomialAfter v (s ++ (b ∷ [])) ≡ polynomialAfter v s * 256 + b
+unfolding polynomialAfter
+polynomialAfter-snoc v [] b = refl
+polynomialAfter-snoc v (a ∷ s) b = polynomialAfter-snoc (v * 256 + a) s b
+
+pub polynomial-nil : polynomial [] ≡ 0
+unfolding polynomial polynomialAfter
+polynomial-nil = refl
+
+pub polynomial-snoc : (s : List ℕ) (b : ℕ) → polynomial (s ++ (b ∷ [])) ≡ polynomial s * 256 + b
+unfolding polynomial
+polynomial-snoc s b = polynomialAfter-snoc 0 s b
+
+-- one byte more
+pub polynomial-take : (s : List ℕ) (i : ℕ) → i < length s → polynomial (take (suc i) s) ≡ polynomial (take i s) * 256 + getD s i 0
+polynomial-take s i h = ap polynomial (take-suc s i 0 h) ∙ polynomial-snoc (take i s) (getD s i 0)
+
+pub length-bytes : (k v : ℕ) → length (bytes k v) ≡ k
+unfolding bytes
+length-bytes zero v = refl
+length-bytes (suc k) v = simp length-append (omega (arith, length-bytes k (v / 256)))
+
+pub bytes-suc : (k v : ℕ) → bytes (suc k) v ≡ bytes k (v / 256) ++ (v % 256 ∷ [])
+unfolding bytes
+bytes-suc k v = refl
+
+-- bytes, read as a number
+pub polynomial-bytes : (k v : ℕ) → polynomial (bytes k v) ≡ v % 256 ^ k
+unfolding bytes
+polynomial-bytes zero v = polynomial-nil ∙ sym (mod-one v)
+polynomial-bytes (suc k) v =
+    polynomial-snoc (bytes k (v / 256)) (v % 256)
+    ∙ ap (λ (x : ℕ). x * 256 + v % 256) (polynomial-bytes k (v / 256))
+    ∙ sym (ap (λ (x : ℕ). v % x) (pow-suc 256 k) ∙ mod-mul v ? (omega arith))
+
+bytes-take : (s : List ℕ) → Bytes s → (k : ℕ) → k ≤ length s → bytes k (polynomial (take k s)) ≡ take k s
+unfolding bytes
+bytes-take s b zero h = refl
+bytes-take s b (suc k) h =
+    let e = polynomial-take s k h in
+    let hi : polynomial (take (suc k) s) / 256 ≡ polynomial (take k s) = omega (arith, b k) in
+    let lo : polynomial (take (suc k) s) % 256 ≡ getD s k 0 = omega (arith, b k) in
+    ap₂ (λ (x : List ℕ) (y : ℕ). x ++ (y ∷ [])) (ap (bytes k) hi ∙ bytes-take s b k (omega arith)) lo ∙ sym (take-suc s k 0 h)
+
+-- a number, written as bytes again
+pub bytes-polynomial : (s : List ℕ) → Bytes s → bytes (length s) (polynomial s) ≡ s
+bytes-polynomial s b =
+    ap (λ (x : List ℕ). bytes (length s) (polynomial x)) (sym (take-length s)) ∙ bytes-take s b (length s) (omega arith) ∙ take-length s

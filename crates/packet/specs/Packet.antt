@@ -1,0 +1,54 @@
+-- A packet of bytes as a binary polynomial: position 0 is the lowest bit of the last byte.
+use Prim.Native.Nat.{ℕ, zero, suc, _+_, _-_, _*_, _/_, _%_, _^_, _<_}
+use mathlib.Core.Bool.{Bool, _||_}
+use mathlib.Core.List.{List, [], _∷_, _++_}
+use lib.Bits.{bitXor}
+use lib.Dec.{leb, ltb}
+use lib.ListN.{length, getD, set}
+use Rattle.poly.specs.Polynomial.{degree, rem}
+
+-- the elements are bytes
+abbrev pub Bytes : List ℕ → Type 0
+Bytes s = (i : ℕ) → getD s i 0 < 256
+
+-- the bytes as one number, the first byte highest; v stands before them
+unfoldable pub polynomialAfter : ℕ → List ℕ → ℕ
+polynomialAfter v [] = v
+polynomialAfter v (b ∷ s) = polynomialAfter (v * 256 + b) s
+
+unfoldable pub polynomial : List ℕ → ℕ
+unfolding polynomialAfter
+polynomial s = polynomialAfter 0 s
+
+-- the lowest k bytes of a number, the highest of them first
+unfoldable pub bytes : ℕ → ℕ → List ℕ
+bytes zero v = []
+bytes (suc k) v = bytes k (v / 256) ++ (v % 256 ∷ [])
+
+-- the packet's length in bits
+abbrev pub bits : List ℕ → ℕ
+bits s = 8 * length s
+
+-- condition 2, for a generator of degree n
+unfoldable pub unfitLength : ℕ → ℕ → Bool
+unfitLength n l = leb l n || ltb 4096 l
+
+-- the remainder, or syndrome, of a packet
+unfoldable pub remainder : ℕ → List ℕ → ℕ
+remainder g s = rem (degree g) g (polynomial s)
+
+-- the packet whose last n bits are set so that its remainder is 0; SealLaws has that it is the only one
+unfoldable pub sealed : ℕ → List ℕ → List ℕ
+sealed g s = bytes (length s) (bitXor (polynomial s) (remainder g s))
+
+-- the bit at a position
+unfoldable pub bitAt : List ℕ → ℕ → ℕ
+bitAt s p = getD s (length s - 1 - p / 8) 0 / 2 ^ (p % 8) % 2
+
+-- the packet with the bit at a position flipped, and with each of several in turn
+unfoldable pub flip : List ℕ → ℕ → List ℕ
+flip s p = set s (length s - 1 - p / 8) (bitXor (getD s (length s - 1 - p / 8) 0) (2 ^ (p % 8)))
+
+unfoldable pub flips : List ℕ → List ℕ → List ℕ
+flips s [] = s
+flips s (p ∷ ps) = flips (flip s p) ps

@@ -1,0 +1,5 @@
+pub mod FoldLaws
+pub mod ProductLaws
+pub mod DivisionLaws
+pub mod DegreeLaws
+pub mod GeneratorLaws
