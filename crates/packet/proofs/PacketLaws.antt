@@ -7,7 +7,10 @@ use native.Mathlib.Nat.{mod-one, pow-suc}
 use lib.Arith.{mod-mul}
 use lib.ListN.{length, getD, take, drop, length-append}
 use lib.Seq.{take-suc, take-length}
-use Rattle.packet.specs.Packet.{Bytes, polynomial, polynomialAfter, bytes}
+use mathlib.Core.Bool.{true, false, or-true}
+use borrow.Author.Tests.{lt-ltb, le-ltb, le-leb, lt-leb}
+use Rattle.base.proofs.Cases.{by-order}
+use Rattle.packet.specs.Packet.{Bytes, polynomial, polynomialAfter, bytes, unfitLength}
 
 polynomialAfter-snoc : (v : ℕ) (s : List ℕ) (b : ℕ) → polynomialAfter v (s ++ (b ∷ [])) ≡ polynomialAfter v s * 256 + b
 unfolding polynomialAfter
@@ -35,6 +38,10 @@ pub bytes-suc : (k v : ℕ) → bytes (suc k) v ≡ bytes k (v / 256) ++ (v % 25
 unfolding bytes
 bytes-suc k v = refl
 
+pub pow-positive : (k : ℕ) → 0 < 256 ^ k
+pow-positive zero = omega arith
+pow-positive (suc k) = omega (arith, pow-positive k)
+
 -- bytes, read as a number
 pub polynomial-bytes : (k v : ℕ) → polynomial (bytes k v) ≡ v % 256 ^ k
 unfolding bytes
@@ -42,7 +49,7 @@ polynomial-bytes zero v = polynomial-nil ∙ sym (mod-one v)
 polynomial-bytes (suc k) v =
     polynomial-snoc (bytes k (v / 256)) (v % 256)
     ∙ ap (λ (x : ℕ). x * 256 + v % 256) (polynomial-bytes k (v / 256))
-    ∙ sym (ap (λ (x : ℕ). v % x) (pow-suc 256 k) ∙ mod-mul v ? (omega arith))
+    ∙ sym (ap (λ (x : ℕ). v % x) (pow-suc 256 k) ∙ mod-mul v (pow-positive k) (omega arith))
 
 bytes-take : (s : List ℕ) → Bytes s → (k : ℕ) → k ≤ length s → bytes k (polynomial (take k s)) ≡ take k s
 unfolding bytes
@@ -57,3 +64,26 @@ bytes-take s b (suc k) h =
 pub bytes-polynomial : (s : List ℕ) → Bytes s → bytes (length s) (polynomial s) ≡ s
 bytes-polynomial s b =
     ap (λ (x : List ℕ). bytes (length s) (polynomial x)) (sym (take-length s)) ∙ bytes-take s b (length s) (omega arith) ∙ take-length s
+
+-- ---- condition 2
+
+pub long-unfit : (n l : ℕ) → 4096 < l → unfitLength n l ≡ true
+unfolding unfitLength
+long-unfit n l h = simp (lt-ltb _ _ h, or-true)
+
+pub short-unfit : (n l : ℕ) → l ≤ n → unfitLength n l ≡ true
+unfolding unfitLength
+short-unfit n l h = simp (le-leb _ _ h)
+
+pub length-fit : (n l : ℕ) → n < l → l ≤ 4096 → unfitLength n l ≡ false
+unfolding unfitLength
+length-fit n l h k = simp (lt-leb _ _ h, le-ltb _ _ k)
+
+pub fit-length : (n l : ℕ) → unfitLength n l ≡ false → (n < l) × (l ≤ 4096)
+fit-length n l e =
+    by-order n l
+    (λ h. by-order 4096 l (λ k. absurd (clash (sym (long-unfit n l k) ∙ e))) (λ k. (h, k)))
+    (λ h. absurd (clash (sym (short-unfit n l h) ∙ e)))
+  where
+    clash : true ≡ false → ⊥
+    clash h = let z : _≡_ {A = ℕ} 0 1 = cc in omega arith

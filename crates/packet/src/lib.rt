@@ -8,11 +8,11 @@ ghost use Prim.Native.Nat.{ℕ, suc, _+_, _*_, _^_, _<_};
 ghost use lib.ListN.{length};
 ghost use lib.Bits.{bitXor};
 ghost use Rattle.base.specs.Outcome.{refused, accepted, judge};
-ghost use Rattle.poly.specs.Generators.{construction, Divisor};
+ghost use Rattle.poly.specs.Generators.{construction, generatorOf, Divisor};
 ghost use Rattle.poly.specs.Polynomial.{rem, degree};
 ghost use Rattle.packet.specs.Packet.{polynomial, bytes};
 ghost use Rattle.packet.specs.Calls.{
-  packetConditions,
+  admitted,
   remainderAnswer,
   remainderCall,
   sealAnswer,
@@ -32,7 +32,7 @@ pub enum SealAnswer {
 
 // Conditions 1 and 2, for a packet of `len` bytes; else the generator with its degree.
 pub fn admit(generator: u64, len: usize) -> Construction
-    ensures { λ r. ⌜ construction r ≡ judge (packetConditions generator (8 * len)) refused (accepted (record { bits = generator; degree = degree generator })) ⌝ }
+    ensures { λ r. ⌜ construction r ≡ admitted generator (8 * len) ⌝ }
 {
     let made = Generator::new(generator);
     match made {
