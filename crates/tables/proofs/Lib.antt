@@ -1,0 +1,5 @@
+pub mod LeastLaws
+pub mod StepLaws
+pub mod PowerLaws
+pub mod PeriodLaws
+pub mod FirstLaws
