@@ -64,7 +64,7 @@ module _ (n g : ℕ) (d : Divisor n g) (atLeast : 1 ≤ n) where
 
   -- degrees to 16, where no position reaches the mark for absent
   module _ (atMost : n ≤ 16) where
-    period-narrow : period n g ≤ 65535
+    pub period-narrow : period n g ≤ 65535
     period-narrow = omega (arith, period-lt n g d atLeast, pow-mono {i = n} {j = 16} atMost)
 
     pub first-present : (s p : ℕ) → power n g p ≡ s → first n g s < 65535

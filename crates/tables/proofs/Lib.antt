@@ -3,3 +3,8 @@ pub mod StepLaws
 pub mod PowerLaws
 pub mod PeriodLaws
 pub mod FirstLaws
+pub mod TableLaws
+pub mod RuleLaws
+pub mod GatherLaws
+pub mod LentLaws
+pub mod WalkLaws

@@ -15,6 +15,12 @@ use Rattle.poly.proofs.DivisionLaws.{reduce-low, reduce-high, reduce-lt, rem-do
 use Rattle.tables.specs.Tables.{step, least}
 use Rattle.tables.proofs.LeastLaws.{by-equal, least-found, Least}
 
+-- a digit times a number is at most that number
+pub digit-times : (e h : ℕ) → e < 2 → e * h ≤ h
+digit-times zero h l = simp zero-mul (omega arith)
+digit-times (suc zero) h l = simp one-mul (omega arith)
+digit-times (suc (suc e)) h l = absurd (omega arith)
+
 -- half of s, with the generator added first where s is odd
 unfoldable pub back : ℕ → ℕ → ℕ
 back g s = bitXor (s / 2) (s % 2 * (g / 2))
@@ -27,7 +33,7 @@ pub back-odd : (g s : ℕ) → s % 2 ≡ 1 → back g s ≡ bitXor s g / 2
 unfolding back
 back-odd g s o = simp (o, one-mul) (sym (xor-half s g))
 
-by-parity {ℓ} : {C : Type ℓ} (s : ℕ) → (s % 2 ≡ 0 → C) → (s % 2 ≡ 1 → C) → C
+pub by-parity {ℓ} : {C : Type ℓ} (s : ℕ) → (s % 2 ≡ 0 → C) → (s % 2 ≡ 1 → C) → C
 by-parity s f g = by-equal (s % 2) 0 f (λ ne. g (omega arith))
 
 module _ (n g : ℕ) (d : Divisor n g) where

@@ -1,6 +1,7 @@
 -- The call that builds the tables: what it answers, and what the two slices then hold.
 use Prim.Native.Nat.{ℕ}
 use mathlib.Core.List.{List, [], _∷_}
+use lib.ListN.{length}
 use Rattle.base.specs.Outcome.{Outcome, refused, accepted, Condition, when, judge}
 use Rattle.base.specs.Refusals.{number}
 use Rattle.poly.specs.Polynomial.{degree}
@@ -11,7 +12,7 @@ use Rattle.tables.specs.declared.TablesAnswer.the-variants.{Built, Refus
 
 -- turned down by 1 and 5
 abbrev pub tablesConditions : ℕ → List ℕ → List ℕ → List Condition
-tablesConditions g steps firsts = when 1 (unfit g) ∷ when 5 (unfitTables (degree g) steps firsts) ∷ []
+tablesConditions g steps firsts = when 1 (unfit g) ∷ when 5 (unfitTables (degree g) (length steps) (length firsts)) ∷ []
 
 abbrev pub tablesAnswer : TablesAnswer → Outcome ℕ
 tablesAnswer (Built c) = accepted c

@@ -1,11 +1,13 @@
 -- The powers of x by their remainders, for a generator g of degree n: the period, and the tables of steps and of first positions.
-use Prim.Native.Nat.{ℕ, zero, suc, _+_, _-_, _*_, _^_}
+use Prim.Native.Nat.{ℕ, zero, suc, _-_, _*_, _^_, _≤_}
+use mathlib.Core.Path.{_≡_}
 use mathlib.Core.Bool.{Bool, true, false, not, _&&_, _||_}
 use mathlib.Core.List.{List, [], _∷_}
 use lib.Dec.{eqb}
 use lib.ListN.{length}
 use Rattle.base.specs.Outcome.{pick}
 use Rattle.poly.specs.Polynomial.{rem}
+use Rattle.poly.specs.Generators.{Divisor}
 
 -- the remainder that x^p leaves
 unfoldable pub power : ℕ → ℕ → ℕ → ℕ
@@ -48,9 +50,9 @@ unfoldable pub firstTable : ℕ → ℕ → List ℕ
 unfolding values
 firstTable n g = values (first n g) (2 ^ n) 0
 
--- condition 5: a table not of 2 ^ n entries
-unfoldable pub unfitTables : ℕ → List ℕ → List ℕ → Bool
-unfitTables n steps firsts = not (eqb (length steps) (2 ^ n)) || not (eqb (length firsts) (2 ^ n))
+-- condition 5, by the numbers of entries of both tables
+unfoldable pub unfitTables : ℕ → ℕ → ℕ → Bool
+unfitTables n steps firsts = not (eqb steps (2 ^ n)) || not (eqb firsts (2 ^ n))
 
 -- whether two lists are the same
 unfoldable pub same : List ℕ → List ℕ → Bool
@@ -67,3 +69,10 @@ rightTables n g steps firsts = same steps (stepTable n g) && same firsts (firstT
 -- condition 6: a table entry is wrong
 unfoldable pub wrongTables : ℕ → ℕ → List ℕ → List ℕ → Bool
 wrongTables n g steps firsts = not (rightTables n g steps firsts)
+
+-- a generator of degree n, and a slice with room for one of its tables: what the inner functions ask
+pub record Lent (n g : ℕ) (l : List ℕ) : Type 0 where
+  pub divisor : Divisor n g
+  pub atLeast : 3 ≤ n
+  pub atMost : n ≤ 16
+  pub full : length l ≡ 2 ^ n
