@@ -10,20 +10,20 @@ use Rattle.tables.specs.Tables.{period, stepTable, firstTable, unfitTabl
 use Rattle.tables.specs.declared.TablesAnswer.{TablesAnswer}
 use Rattle.tables.specs.declared.TablesAnswer.the-variants.{Built, Refused}
 
--- turned down by 1 and 5
-abbrev pub tablesConditions : ℕ → List ℕ → List ℕ → List Condition
-tablesConditions g steps firsts = when 1 (unfit g) ∷ when 5 (unfitTables (degree g) (length steps) (length firsts)) ∷ []
+-- turned down by 1 and 5, with tables of this many entries
+abbrev pub tablesConditions : ℕ → ℕ → ℕ → List Condition
+tablesConditions g steps firsts = when 1 (unfit g) ∷ when 5 (unfitTables (degree g) steps firsts) ∷ []
 
 abbrev pub tablesAnswer : TablesAnswer → Outcome ℕ
 tablesAnswer (Built c) = accepted c
 tablesAnswer (Refused r) = refused (number r)
 
 abbrev pub tablesCall : ℕ → List ℕ → List ℕ → Outcome ℕ
-tablesCall g steps firsts = judge (tablesConditions g steps firsts) refused (accepted (period (degree g) g))
+tablesCall g steps firsts = judge (tablesConditions g (length steps) (length firsts)) refused (accepted (period (degree g) g))
 
 -- the slices after the call
 abbrev pub stepsAfter : ℕ → List ℕ → List ℕ → List ℕ
-stepsAfter g steps firsts = judge (tablesConditions g steps firsts) (λ _. steps) (stepTable (degree g) g)
+stepsAfter g steps firsts = judge (tablesConditions g (length steps) (length firsts)) (λ _. steps) (stepTable (degree g) g)
 
 abbrev pub firstsAfter : ℕ → List ℕ → List ℕ → List ℕ
-firstsAfter g steps firsts = judge (tablesConditions g steps firsts) (λ _. firsts) (firstTable (degree g) g)
+firstsAfter g steps firsts = judge (tablesConditions g (length steps) (length firsts)) (λ _. firsts) (firstTable (degree g) g)

@@ -8,8 +8,9 @@ ghost use lib.Bits.{bitXor};
 ghost use lib.Dec.{eqb};
 ghost use lib.ListN.{length, replicate};
 ghost use mathlib.Core.Logic.{_↔_};
-ghost use Rattle.poly.specs.Polynomial.{reduce};
-ghost use Rattle.poly.specs.Generators.{Divisor};
+ghost use Rattle.base.specs.Outcome.{refused, accepted, judge};
+ghost use Rattle.poly.specs.Polynomial.{reduce, degree};
+ghost use Rattle.poly.specs.Generators.{construction, Divisor};
 ghost use Rattle.tables.specs.Tables.{
   period,
   stepTable,
@@ -21,6 +22,7 @@ ghost use Rattle.tables.specs.Tables.{
 };
 ghost use Rattle.tables.specs.Rule.{later, EvenRuled, OddRuled};
 ghost use Rattle.tables.specs.Calls.{
+  tablesConditions,
   tablesAnswer,
   tablesCall,
   stepsAfter,
@@ -186,22 +188,43 @@ pub fn period_of(g: Generator, steps: &[u16], firsts: &[u16]) -> u64
     firsts[t] as u64 + 1
 }
 
+// Conditions 1 and 5, for tables of this many entries; else the generator with its degree.
+fn admit(generator: u64, steps: usize, firsts: usize) -> Construction
+    ensures { λ r. ⌜ construction r ≡ judge (tablesConditions generator steps firsts) refused (accepted (record { bits = generator; degree = degree generator })) ⌝ }
+{
+    let made = Generator::new(generator);
+    match made {
+        Construction::Refused(r) => Construction::Refused(r),
+        Construction::Made(g) => {
+            if unfit_tables(g, steps, firsts) {
+                return Construction::Refused(Refusal::TableLength);
+            }
+            Construction::Made(g)
+        }
+    }
+}
+
+// Fills both tables, and yields the period.
+fn build(g: Generator, steps: &mut [u16], firsts: &mut [u16]) -> u64
+    requires { ⌜ Lent (g .degree) (g .bits) (now steps) × Lent (g .degree) (g .bits) (now firsts) ⌝ }
+    ensures { λ r. ⌜ r ≡ period (g .degree) (g .bits) ⌝ }
+    ensures { λ _. ⌜ now (steps .exit) ≡ stepTable (g .degree) (g .bits) ⌝ }
+    ensures { λ _. ⌜ now (firsts .exit) ≡ firstTable (g .degree) (g .bits) ⌝ }
+{
+    fill_steps(g, steps);
+    clear(firsts);
+    walk(g, firsts)
+}
+
 // Builds both tables and answers the period.
 pub fn tables(generator: u64, steps: &mut [u16], firsts: &mut [u16]) -> TablesAnswer
     ensures answer { λ r. ⌜ tablesAnswer r ≡ tablesCall generator (now (steps .entry)) (now (firsts .entry)) ⌝ }
     ensures steps { λ _. ⌜ now (steps .exit) ≡ stepsAfter generator (now (steps .entry)) (now (firsts .entry)) ⌝ }
     ensures firsts { λ _. ⌜ now (firsts .exit) ≡ firstsAfter generator (now (steps .entry)) (now (firsts .entry)) ⌝ }
 {
-    let made = Generator::new(generator);
-    match made {
+    let admitted = admit(generator, steps.len(), firsts.len());
+    match admitted {
         Construction::Refused(r) => TablesAnswer::Refused(r),
-        Construction::Made(g) => {
-            if unfit_tables(g, steps.len(), firsts.len()) {
-                return TablesAnswer::Refused(Refusal::TableLength);
-            }
-            fill_steps(g, steps);
-            clear(firsts);
-            TablesAnswer::Built(walk(g, firsts))
-        }
+        Construction::Made(g) => TablesAnswer::Built(build(g, steps, firsts)),
     }
 }
