@@ -5,6 +5,7 @@ use mathlib.Core.List.{List, [], _∷_}
 use Prim.Native.Nat.{ℕ}
 use native.Mathlib.Omega.{arith}
 use Rattle.base.specs.Outcome.{Outcome, refused, accepted, Condition, pick, judge}
+use Rattle.base.specs.Lists.{All, none, each}
 use Rattle.base.proofs.Cases.{by-test}
 
 module _ {A : Type 0} where
@@ -38,3 +39,18 @@ module _ {A : Type 0} where
       by-test (t .applies)
       (λ h. absurd (refused-not-accepted (rw h at e)))
       (λ h. judge-value ts a b (rw h at e))
+
+  -- where a call is accepted, no condition applies
+  pub judge-clear : (ts : List Condition) (a b : A) → judge ts refused (accepted a) ≡ accepted b → All (λ (t : Condition). t .applies ≡ false) ts
+  judge-clear [] a b e = none
+  judge-clear (t ∷ ts) a b e =
+      by-test (t .applies)
+      (λ h. absurd (refused-not-accepted (rw h at e)))
+      (λ h. each h (judge-clear ts a b (rw h at e)))
+
+-- the first of several facts, and the others
+pub first-of : {A : Type 0} {P : A → Type 0} {x : A} {xs : List A} → All P (x ∷ xs) → P x
+first-of (each h hs) = h
+
+pub rest-of : {A : Type 0} {P : A → Type 0} {x : A} {xs : List A} → All P (x ∷ xs) → All P xs
+rest-of (each h hs) = hs

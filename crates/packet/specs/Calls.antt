@@ -4,7 +4,8 @@ use mathlib.Core.List.{List, [], _∷_}
 use Rattle.base.specs.Outcome.{Outcome, refused, accepted, Condition, when, judge}
 use Rattle.base.specs.Refusals.{number}
 use Rattle.poly.specs.Polynomial.{degree}
-use Rattle.poly.specs.Generators.{unfit}
+use Rattle.poly.specs.Generators.{unfit, generatorOf}
+use Rattle.poly.specs.declared.Generator.{Generator}
 use Rattle.packet.specs.Packet.{bits, unfitLength, remainder, sealed}
 use Rattle.packet.specs.declared.RemainderAnswer.{RemainderAnswer}
 use Rattle.packet.specs.declared.RemainderAnswer.the-variants as RemainderAnswer-cases
@@ -14,6 +15,10 @@ use Rattle.packet.specs.declared.SealAnswer.the-variants as SealAnswer-c
 -- remainder and seal are turned down by 1 and 2
 abbrev pub packetConditions : ℕ → ℕ → List Condition
 packetConditions g l = when 1 (unfit g) ∷ when 2 (unfitLength (degree g) l) ∷ []
+
+-- the generator of a packet of l bits that neither turns down
+abbrev pub admitted : ℕ → ℕ → Outcome Generator
+admitted g l = judge (packetConditions g l) refused (accepted (generatorOf g))
 
 abbrev pub remainderAnswer : RemainderAnswer → Outcome ℕ
 remainderAnswer (RemainderAnswer-cases.Remainder r) = accepted r

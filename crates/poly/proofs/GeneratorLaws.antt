@@ -5,9 +5,18 @@ use Prim.Native.Nat.{ℕ, suc, _+_, _%_, _^_, _<_, _≤_}
 use native.Mathlib.Omega.{arith}
 use borrow.Author.Tests.{lt-ltb, le-ltb, eq-eqb, ne-eqb, ltb-true, ltb-false, eqb-true, eqb-false}
 use lib.Dec.{eqb, ltb}
+use mathlib.Core.List.{List}
+use Rattle.base.specs.Lists.{All}
+use Rattle.base.specs.Outcome.{Outcome, refused, accepted, Condition, judge}
+use Rattle.base.specs.Refusals.{number}
+use Rattle.base.specs.declared.Refusal.{Refusal}
 use Rattle.base.proofs.Cases.{by-test}
+use Rattle.base.proofs.JudgeLaws.{judge-refused, judge-accepted, judge-value, judge-clear}
+use Rattle.poly.specs.declared.Generator.{Generator}
+use Rattle.poly.specs.declared.Construction.{Construction}
+use Rattle.poly.specs.declared.Construction.the-variants.{Made, Refused}
 use Rattle.poly.specs.Polynomial.{degree}
-use Rattle.poly.specs.Generators.{unfit, Divisor}
+use Rattle.poly.specs.Generators.{unfit, construction, generatorOf, Divisor}
 use Rattle.poly.proofs.DegreeLaws.{degree-of}
 
 pub even-unfit : (g : ℕ) → g % 2 ≡ 0 → unfit g ≡ true
@@ -49,3 +58,17 @@ fit-accepted g e =
 
     positive : (g % 2 ≡ 0 → ⊥) → 0 < g
     positive o = omega arith
+
+-- a caller that was handed the answer of conditions ts, by its case
+module _ (ts : List Condition) (g : ℕ) {r : Construction} (e : construction r ≡ judge ts refused (accepted (generatorOf g))) where
+  pub refused-by : {R : Type 0} {q : Refusal} → r ≡ Refused q → (turned : ℕ → R) (done : R) → judge ts turned done ≡ turned (number q)
+  refused-by h turned done = judge-refused ts (generatorOf g) _ turned done (sym e ∙ ap construction h)
+
+  pub made-by : {R : Type 0} {v : Generator} → r ≡ Made v → (turned : ℕ → R) (done : R) → judge ts turned done ≡ done
+  made-by {v = v} h turned done = judge-accepted ts (generatorOf g) v turned done (sym e ∙ ap construction h)
+
+  pub made-value : {v : Generator} → r ≡ Made v → generatorOf g ≡ v
+  made-value {v} h = judge-value ts (generatorOf g) v (sym e ∙ ap construction h)
+
+  pub made-clear : {v : Generator} → r ≡ Made v → All (λ (t : Condition). t .applies ≡ false) ts
+  made-clear {v} h = judge-clear ts (generatorOf g) v (sym e ∙ ap construction h)

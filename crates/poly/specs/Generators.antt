@@ -20,9 +20,12 @@ abbrev pub construction : Construction → Outcome Generator
 construction (Made g) = accepted g
 construction (Refused r) = refused (number r)
 
--- g with its degree, unless condition 1 applies
+-- the generator of a number: the number, and the degree
+abbrev pub generatorOf : ℕ → Generator
+generatorOf g = record { bits = g; degree = degree g }
+
 abbrev pub constructed : ℕ → Outcome Generator
-constructed g = judge (when 1 (unfit g) ∷ []) refused (accepted (record { bits = g; degree = degree g }))
+constructed g = judge (when 1 (unfit g) ∷ []) refused (accepted (generatorOf g))
 
 -- a number of degree n, and odd: what the laws ask of a generator
 pub record Divisor (n g : ℕ) : Type 0 where

@@ -1,0 +1,4 @@
+pub mod Patterns
+pub mod Order
+pub mod Listing
+pub mod Pages

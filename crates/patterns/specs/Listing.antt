@@ -1,0 +1,50 @@
+-- The list of error patterns: every set of at most so many positions below l, with a given syndrome.
+use Prim.Native.Nat.{ℕ, zero, suc, _≤_, _<_}
+use mathlib.Core.Bool.{Bool, true, false, _&&_}
+use mathlib.Core.List.{List, [], _∷_, _++_, map}
+use lib.Dec.{eqb, ltb, leb}
+use Rattle.base.specs.Outcome.{pick}
+use Rattle.poly.specs.Polynomial.{rem, powers}
+use Rattle.patterns.specs.Patterns.{Place, start, ended, after}
+use Rattle.patterns.specs.Order.{before}
+
+-- strictly ascending positions, from `from` on and below l
+pub data Ascending (l : ℕ) : ℕ → List ℕ → Type 0 where
+  none : {from : ℕ} → Ascending l from []
+  next : {from p : ℕ} {ps : List ℕ} → from ≤ p → p < l → Ascending l (suc p) ps → Ascending l from (p ∷ ps)
+
+-- the same as a test
+unfoldable pub ascending : ℕ → ℕ → List ℕ → Bool
+ascending l from [] = true
+ascending l from (p ∷ ps) = leb from p && (ltb p l && ascending l (suc p) ps)
+
+-- the syndrome of a set of positions, for a generator g of degree n
+unfoldable pub syndrome : ℕ → ℕ → List ℕ → ℕ
+syndrome n g ps = rem n g (powers ps)
+
+-- all sets of k positions among the `room` positions from `from` on
+unfoldable pub choose : ℕ → ℕ → ℕ → List (List ℕ)
+choose room zero from = [] ∷ []
+choose zero (suc k) from = []
+choose (suc room) (suc k) from = map (λ ps. from ∷ ps) (choose room k (suc from)) ++ choose room (suc k) (suc from)
+
+-- all sets of at most so many positions below l
+unfoldable pub upTo : ℕ → ℕ → List (List ℕ)
+upTo l zero = choose l zero zero
+upTo l (suc limit) = upTo l limit ++ choose l (suc limit) zero
+
+-- those members of a list that pass a test, in their order
+unfoldable pub sift : {A : Type 0} → (A → Bool) → List A → List A
+sift P [] = []
+sift P (x ∷ xs) = pick (P x) (x ∷ sift P xs) (sift P xs)
+
+-- the list for a generator g of degree n, l bits, a limit and a syndrome s; ListingLaws has that a set is listed
+-- exactly when it is ascending, below l, of at most so many positions and of this syndrome, and that the list ascends
+unfoldable pub listing : ℕ → ℕ → ℕ → ℕ → ℕ → List (List ℕ)
+listing n g l limit s = sift (λ ps. eqb (syndrome n g ps) s) (upTo l limit)
+
+-- does a pattern follow a mark?
+unfoldable pub follows : Place → List ℕ → Bool
+follows start ps = true
+follows ended ps = false
+follows (after p) ps = before p ps
