@@ -7,11 +7,11 @@ use native.Mathlib.Nat.{mod-lt, mod-le}
 use borrow.Author.Tests.{eqb-true, eq-eqb}
 use lib.Dec.{eqb}
 use lib.Pow.{pow-mono, pow-pos}
-use Rattle.base.proofs.Cases.{by-order}
+use Rattle.base.proofs.Cases.{by-order, by-equal}
 use Rattle.poly.specs.Polynomial.{reduce}
 use Rattle.poly.specs.Generators.{Divisor}
 use Rattle.tables.specs.Tables.{power, step, first, period, least, absent}
-use Rattle.tables.proofs.LeastLaws.{least-found, least-or-other, Least, by-equal}
+use Rattle.tables.proofs.LeastLaws.{least-found, least-or-other, Least}
 use Rattle.tables.proofs.StepLaws.{step-twice, step-inverts, Inverts, rem-twice}
 use Rattle.tables.proofs.PowerLaws.{power-lt, power-suc, power-zero, power-nonzero, step-power}
 use Rattle.tables.proofs.PeriodLaws.{period-positive, period-lt, power-period, power-turns, power-mod, power-only, power-apart}

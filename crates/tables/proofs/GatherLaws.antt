@@ -16,9 +16,10 @@ pub mismatch : (a r b : ℕ) → r ≡ b → (bitXor a r ≡ 0) ↔ (a ≡ b)
 mismatch a r b e = ((λ z. xor-zero-equal a r z ∙ e), (λ h. ap (bitXor a) (e ∙ sym h) ∙ xor-self a))
 
 pub or-zero : (a b : ℕ) → (bitOr a b ≡ 0) ↔ ((a ≡ 0) × (b ≡ 0))
-or-zero a b =
-    ((λ e. (omega (arith, or-add-and a b, and-le-r a b), omega (arith, or-add-and a b, and-le-l a b))),
-    (λ e. ap₂ bitOr (e .0) (e .1)))
+or-zero a b = (
+  (λ e. (omega (arith, or-add-and a b, and-le-r a b), omega (arith, or-add-and a b, and-le-l a b))),
+  (λ e. ap₂ bitOr (e .0) (e .1)),
+)
 
 pub or-eqb-zero : (a b : ℕ) → eqb (bitOr a b) 0 ≡ (eqb a 0 && eqb b 0)
 or-eqb-zero a b =
@@ -35,9 +36,10 @@ module _ (P : ℕ → Type 0) where
   gathered-none = ((λ e k h. absurd (omega arith)), λ h. refl)
 
   pub gathered-more : (i wrong new : ℕ) → Gathered P i wrong → ((new ≡ 0) ↔ P i) → Gathered P (i + 1) (bitOr wrong new)
-  gathered-more i wrong new g h =
-      ((λ e. let z = or-zero wrong new .0 e in below-more P i (g .0 (z .0)) (h .0 (z .1))),
-      (λ all. or-zero wrong new .1 (g .1 (λ k l. all k (omega arith)), h .1 (all i (omega arith)))))
+  gathered-more i wrong new g h = (
+    (λ e. let z = or-zero wrong new .0 e in below-more P i (g .0 (z .0)) (h .0 (z .1))),
+    (λ all. or-zero wrong new .1 (g .1 (λ k l. all k (omega arith)), h .1 (all i (omega arith)))),
+  )
 
   pub gathered-all : (i m wrong : ℕ) → i ≡ m → Gathered P i wrong → Gathered P m wrong
   gathered-all i m wrong e g = ((λ z k h. g .0 z k (omega arith)), (λ all. g .1 (λ k h. all k (omega arith))))

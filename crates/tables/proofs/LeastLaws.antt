@@ -4,10 +4,10 @@ use mathlib.Core.Bool.{Bool, true, false}
 use mathlib.Core.Logic.{_⊎_, inl, inr}
 use Prim.Native.Nat.{ℕ, zero, suc, _+_, _-_, _<_, _≤_}
 use native.Mathlib.Omega.{arith}
-use borrow.Author.Tests.{eqb-true, eqb-false, lt-ltb, le-ltb}
-use lib.Dec.{eqb, ltb}
+use borrow.Author.Tests.{lt-ltb, le-ltb}
+use lib.Dec.{ltb}
 use Rattle.base.specs.Outcome.{pick}
-use Rattle.base.proofs.Cases.{by-test, by-order}
+use Rattle.base.proofs.Cases.{by-test, by-order, by-equal}
 use Rattle.tables.specs.Tables.{least}
 
 differ : true ≡ false → ⊥
@@ -37,9 +37,6 @@ module _ (test : ℕ → Bool) (other : ℕ) where
   least-or-other zero from = inr refl
   least-or-other (suc count) from =
       by-test (test from) (λ e. rw (e, least) (inl e)) (λ e. rw (e, least) (least-or-other count (suc from)))
-
-pub by-equal {ℓ} : {C : Type ℓ} (a b : ℕ) → (a ≡ b → C) → ((a ≡ b → ⊥) → C) → C
-by-equal a b f g = by-test (eqb a b) (λ e. f (eqb-true a b e)) (λ e. g (eqb-false a b e))
 
 -- a number below k with the value v, or that there is none
 data Value (f : ℕ → ℕ) (v k : ℕ) : Type 0 where

@@ -8,3 +8,4 @@ pub mod RuleLaws
 pub mod GatherLaws
 pub mod LentLaws
 pub mod WalkLaws
+pub mod AdmitLaws

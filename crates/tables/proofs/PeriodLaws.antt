@@ -8,10 +8,10 @@ use native.Mathlib.Nat.{add-zero, add-comm, add-assoc, zero-mul, suc-mul, mod-lt
 use borrow.Author.Tests.{eqb-true, eq-eqb}
 use lib.Dec.{eqb}
 use lib.Pow.{pow-pos, pow-mono}
-use Rattle.base.proofs.Cases.{by-order}
+use Rattle.base.proofs.Cases.{by-order, by-equal}
 use Rattle.poly.specs.Generators.{Divisor}
 use Rattle.tables.specs.Tables.{power, period, least}
-use Rattle.tables.proofs.LeastLaws.{least-found, Least, Twice, pigeonhole, by-equal}
+use Rattle.tables.proofs.LeastLaws.{least-found, Least, Twice, pigeonhole}
 use Rattle.tables.proofs.PowerLaws.{power-lt, power-zero, power-nonzero, power-after, power-before}
 
 module _ (n g : ℕ) (d : Divisor n g) (atLeast : 1 ≤ n) where

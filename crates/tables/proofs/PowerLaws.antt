@@ -5,12 +5,12 @@ use native.Mathlib.Omega.{arith}
 use native.Mathlib.Nat.{add-zero, add-suc, zero-add}
 use native.Mathlib.Numerals.{add-one}
 use lib.Pow.{pow-pos, pow-mono}
+use Rattle.base.proofs.Cases.{by-equal}
 use Rattle.poly.specs.Polynomial.{rem, reduce}
 use Rattle.poly.specs.Generators.{Divisor}
 use Rattle.poly.proofs.DivisionLaws.{reduce-low, rem-double, rem-small, rem-lt}
 use Rattle.tables.specs.Tables.{power, step}
 use Rattle.tables.proofs.StepLaws.{step-is, step-twice}
-use Rattle.tables.proofs.LeastLaws.{by-equal}
 
 module _ (n g : ℕ) (d : Divisor n g) where
   pub power-lt : (p : ℕ) → power n g p < 2 ^ n

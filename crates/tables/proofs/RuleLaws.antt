@@ -10,12 +10,11 @@ use native.Mathlib.Nat.{one-mul}
 use lib.Bits.{bitXor}
 use lib.ListN.{length, getD}
 use lib.Pow.{pow-mono, pow-pos}
-use Rattle.base.proofs.Cases.{by-order}
+use Rattle.base.proofs.Cases.{by-order, by-equal}
 use Rattle.poly.specs.Polynomial.{rem, reduce}
 use Rattle.poly.specs.Generators.{Divisor}
 use Rattle.tables.specs.Tables.{power, step, first, period, stepTable, firstTable}
 use Rattle.tables.specs.Rule.{later, EvenRuled, OddRuled}
-use Rattle.tables.proofs.LeastLaws.{by-equal}
 use Rattle.tables.proofs.StepLaws.{by-parity, step-is, step-halves, step-inverts, Inverts, rem-twice}
 use Rattle.tables.proofs.PowerLaws.{power-lt, power-suc, power-zero, power-nonzero, step-power}
 use Rattle.tables.proofs.PeriodLaws.{period-positive, period-lt, period-least, power-period}
@@ -75,13 +74,13 @@ module _ (n g : ℕ) (d : Divisor n g) (atLeast : 1 ≤ n) (atMost : n ≤ 16) w
   rule-first = record {
     zeroth = getD-firstTable n g 0 (pow-pos n) ∙ first-zero n g d atLeast atMost;
     one =
-      getD-firstTable n g 1 two-powers
-      ∙ ap (first n g) (sym (power-zero n g d atLeast))
-      ∙ first-below n g d atLeast 0 (omega (arith, period-positive n g d atLeast));
+        getD-firstTable n g 1 two-powers
+        ∙ ap (first n g) (sym (power-zero n g d atLeast))
+        ∙ first-below n g d atLeast 0 (omega (arith, period-positive n g d atLeast));
     more = λ s h b.
-      getD-firstTable n g s b
-      ∙ first-ruled s h b
-      ∙ ap later (sym (getD-firstTable n g (step n g s) (step-inverts n g d s b .below)));
+        getD-firstTable n g s b
+        ∙ first-ruled s h b
+        ∙ ap later (sym (getD-firstTable n g (step n g s) (step-inverts n g d s b .below)));
   }
 
   -- a list that obeys it
@@ -144,17 +143,17 @@ module _ (n g : ℕ) (d : Divisor n g) (atLeast : 1 ≤ n) (atMost : n ≤ 16) w
       zeroth = omega (arith, even 0 (below-half 0 .1 two-powers));
       one = one;
       more = λ s h b.
-        by-parity s
-        (λ e.
-        let whole : s ≡ s / 2 * 2 = omega arith in
-        let in-half : s / 2 < length l / 2 = below-half (s / 2) .1 (let p = pow-even n atLeast in omega arith) in
-        ap (λ (x : ℕ). getD l x 0) whole ∙ even (s / 2) in-half ∙ ap (λ (x : ℕ). later (getD l x 0)) (sym (step-is n g d s b .0 e)))
-        (λ o.
-        let whole : s ≡ s / 2 * 2 + 1 = omega arith in
-        let in-half : s / 2 < length l / 2 = below-half (s / 2) .1 (omega arith) in
-        ap (λ (x : ℕ). getD l x 0) whole
-        ∙ odd (s / 2) in-half (omega arith)
-        ∙ ap (λ (x : ℕ). later (getD l x 0)) (sym (ap (step n g) whole ∙ step-double-one (s / 2) (omega arith))));
+          by-parity s
+          (λ e.
+          let whole : s ≡ s / 2 * 2 = omega arith in
+          let in-half : s / 2 < length l / 2 = below-half (s / 2) .1 (let p = pow-even n atLeast in omega arith) in
+          ap (λ (x : ℕ). getD l x 0) whole ∙ even (s / 2) in-half ∙ ap (λ (x : ℕ). later (getD l x 0)) (sym (step-is n g d s b .0 e)))
+          (λ o.
+          let whole : s ≡ s / 2 * 2 + 1 = omega arith in
+          let in-half : s / 2 < length l / 2 = below-half (s / 2) .1 (omega arith) in
+          ap (λ (x : ℕ). getD l x 0) whole
+          ∙ odd (s / 2) in-half (omega arith)
+          ∙ ap (λ (x : ℕ). later (getD l x 0)) (sym (ap (step n g) whole ∙ step-double-one (s / 2) (omega arith))));
     }
 
     pub ruled-even : Ruled n g l → EvenRuled l
@@ -170,23 +169,24 @@ module _ (n g : ℕ) (d : Divisor n g) (atLeast : 1 ≤ n) (atMost : n ≤ 16) w
 
     -- the step table by even and odd places
     pub step-rule : ((k : ℕ) → k < length l / 2 → (getD l (k * 2) 0 ≡ k) × (getD l (k * 2 + 1) 0 ≡ bitXor k (g / 2))) ↔ (l ≡ stepTable n g)
-    step-rule =
-        ((λ rule. stepTable-by-entries n g l full
-        (λ s b. by-parity s
-        (λ e.
-        let whole : s ≡ s / 2 * 2 = omega arith in
-        let in-half : s / 2 < length l / 2 = below-half (s / 2) .1 (let p = pow-even n atLeast in omega arith) in
-        ap (λ (x : ℕ). getD l x 0) whole ∙ rule (s / 2) in-half .0 ∙ sym (step-is n g d s b .0 e))
-        (λ o.
-        let whole : s ≡ s / 2 * 2 + 1 = omega arith in
-        let in-half : s / 2 < length l / 2 = below-half (s / 2) .1 (omega arith) in
-        ap (λ (x : ℕ). getD l x 0) whole
-        ∙ rule (s / 2) in-half .1
-        ∙ sym (ap (step n g) whole ∙ step-double-one (s / 2) (omega arith))))),
-        (λ e k h.
-        let b = below-half k .0 h in
-        let entry : (s : ℕ) → s < 2 ^ n → getD l s 0 ≡ step n g s = λ s c. ap (λ (x : List ℕ). getD x s 0) e ∙ getD-stepTable n g s c in
-        (entry (k * 2) (omega arith) ∙ step-double k (omega arith), entry (k * 2 + 1) b ∙ step-double-one k b)))
+    step-rule = (
+      (λ rule. stepTable-by-entries n g l full
+          (λ s b. by-parity s
+          (λ e.
+          let whole : s ≡ s / 2 * 2 = omega arith in
+          let in-half : s / 2 < length l / 2 = below-half (s / 2) .1 (let p = pow-even n atLeast in omega arith) in
+          ap (λ (x : ℕ). getD l x 0) whole ∙ rule (s / 2) in-half .0 ∙ sym (step-is n g d s b .0 e))
+          (λ o.
+          let whole : s ≡ s / 2 * 2 + 1 = omega arith in
+          let in-half : s / 2 < length l / 2 = below-half (s / 2) .1 (omega arith) in
+          ap (λ (x : ℕ). getD l x 0) whole
+          ∙ rule (s / 2) in-half .1
+          ∙ sym (ap (step n g) whole ∙ step-double-one (s / 2) (omega arith))))),
+      (λ e k h.
+          let b = below-half k .0 h in
+          let entry : (s : ℕ) → s < 2 ^ n → getD l s 0 ≡ step n g s = λ s c. ap (λ (x : List ℕ). getD x s 0) e ∙ getD-stepTable n g s c in
+          (entry (k * 2) (omega arith) ∙ step-double k (omega arith), entry (k * 2 + 1) b ∙ step-double-one k b)),
+    )
 
     -- the step of an odd place is a place of the table
     pub odd-step-lt : (k : ℕ) → k < length l / 2 → bitXor k (g / 2) < length l
@@ -196,8 +196,9 @@ module _ (n g : ℕ) (d : Divisor n g) (atLeast : 1 ≤ n) (atMost : n ≤ 16) w
 
     -- what the three tests of a table of first positions mean together
     pub first-rules : ((i : ℕ) → getD l i 0 < 65536) → (l ≡ firstTable n g) ↔ (EvenRuled l × OddRuled (g / 2) l × (getD l 1 0 ≡ 0))
-    first-rules fits =
-        ((λ e.
-        let r : Ruled n g l = rw e (rule-first) in
-        (ruled-even r, ruled-odd r, r .one)),
-        (λ h. first-rule l fits (ruled-by-parity (fits 0) (h .2) (h .0) (h .1)) full))
+    first-rules fits = (
+      (λ e.
+          let r : Ruled n g l = rw e (rule-first) in
+          (ruled-even r, ruled-odd r, r .one)),
+      (λ h. first-rule l fits (ruled-by-parity (fits 0) (h .2) (h .0) (h .1)) full),
+    )

@@ -7,13 +7,13 @@ use borrow.Author.Tests.{eqb-true, eq-eqb}
 use lib.Dec.{eqb}
 use lib.Pow.{pow-pos}
 use lib.Bits.{bitXor, differ, xor-step, xor-zero-l, xor-zero-r, xor-self, xor-comm, xor-lt, xor-shr}
-use Rattle.base.proofs.Cases.{by-order}
+use Rattle.base.proofs.Cases.{by-order, by-equal}
 use Rattle.base.proofs.XorLaws.{xor-half, xor-low, xor-cancel, xor-ac, xor-assoc, xor-left-comm}
 use Rattle.poly.specs.Polynomial.{rem, reduce}
 use Rattle.poly.specs.Generators.{Divisor}
 use Rattle.poly.proofs.DivisionLaws.{reduce-low, reduce-high, reduce-lt, rem-double, rem-small, rem-lt}
 use Rattle.tables.specs.Tables.{step, least}
-use Rattle.tables.proofs.LeastLaws.{by-equal, least-found, Least}
+use Rattle.tables.proofs.LeastLaws.{least-found, Least}
 
 -- a digit times a number is at most that number
 pub digit-times : (e h : ℕ) → e < 2 → e * h ≤ h

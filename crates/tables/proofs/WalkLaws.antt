@@ -8,11 +8,10 @@ use native.Mathlib.Numerals.{add-one}
 use borrow.Author.Count.{below-more}
 use lib.ListN.{length, getD, set, replicate, getD-replicate}
 use lib.Seq.{getD-set-same, getD-set-other}
-use Rattle.base.proofs.Cases.{by-order}
+use Rattle.base.proofs.Cases.{by-order, by-equal}
 use Rattle.poly.specs.Polynomial.{reduce}
 use Rattle.poly.specs.Generators.{Divisor}
 use Rattle.tables.specs.Tables.{power, first, period, firstTable}
-use Rattle.tables.proofs.LeastLaws.{by-equal}
 use Rattle.tables.proofs.PowerLaws.{power-lt, power-suc}
 use Rattle.tables.proofs.PeriodLaws.{period-least, power-period, power-apart}
 use Rattle.tables.proofs.FirstLaws.{Found, first-found, first-hit, first-present, first-none}
@@ -35,13 +34,13 @@ module _ (n g : ℕ) (d : Divisor n g) (atLeast : 1 ≤ n) where
       let at : ℕ = power n g p in
       record {
         passed =
-          below-more (λ k. getD (set l at p) (power n g k) 0 ≡ k) p
-          (λ k b.
-          getD-set-other l at (power n g k) p 0 (λ s. omega (arith, power-apart n g d atLeast k p (omega arith) h s))
-          ∙ w .passed k b)
-          (getD-set-same l at p 0 (omega (arith, power-lt n g d p)));
+            below-more (λ k. getD (set l at p) (power n g k) 0 ≡ k) p
+            (λ k b.
+            getD-set-other l at (power n g k) p 0 (λ s. omega (arith, power-apart n g d atLeast k p (omega arith) h s))
+            ∙ w .passed k b)
+            (getD-set-same l at p 0 (omega (arith, power-lt n g d p)));
         rest = λ s b none.
-          getD-set-other l at s p 0 (λ z. none p (omega arith) (sym z)) ∙ w .rest s b (λ k lt. none k (omega arith));
+            getD-set-other l at s p 0 (λ z. none p (omega arith) (sym z)) ∙ w .rest s b (λ k lt. none k (omega arith));
       }
 
   -- one power more, where remainder 1 returns and where it does not

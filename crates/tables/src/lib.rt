@@ -8,8 +8,7 @@ ghost use lib.Bits.{bitXor};
 ghost use lib.Dec.{eqb};
 ghost use lib.ListN.{length, replicate};
 ghost use mathlib.Core.Logic.{_↔_};
-ghost use Rattle.base.specs.Outcome.{refused, accepted, judge};
-ghost use Rattle.poly.specs.Polynomial.{reduce, degree};
+ghost use Rattle.poly.specs.Polynomial.{reduce};
 ghost use Rattle.poly.specs.Generators.{construction, Divisor};
 ghost use Rattle.tables.specs.Tables.{
   period,
@@ -22,7 +21,7 @@ ghost use Rattle.tables.specs.Tables.{
 };
 ghost use Rattle.tables.specs.Rule.{later, EvenRuled, OddRuled};
 ghost use Rattle.tables.specs.Calls.{
-  tablesConditions,
+  admitted,
   tablesAnswer,
   tablesCall,
   stepsAfter,
@@ -190,7 +189,7 @@ pub fn period_of(g: Generator, steps: &[u16], firsts: &[u16]) -> u64
 
 // Conditions 1 and 5, for tables of this many entries; else the generator with its degree.
 fn admit(generator: u64, steps: usize, firsts: usize) -> Construction
-    ensures { λ r. ⌜ construction r ≡ judge (tablesConditions generator steps firsts) refused (accepted (record { bits = generator; degree = degree generator })) ⌝ }
+    ensures { λ r. ⌜ construction r ≡ admitted generator steps firsts ⌝ }
 {
     let made = Generator::new(generator);
     match made {

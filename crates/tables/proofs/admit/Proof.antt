@@ -1,40 +1,44 @@
+-- `admit` judges conditions 1 and 5: the constructor decides the first, `unfit_tables` the second.
+use mathlib.Core.Path.{sym, _∙_}
 use borrow.Author.Needs.{needs}
-use native.Mathlib.Omega.{arith}
-use borrow.Author.Needs.{needs}
+use Rattle.tables.proofs.AdmitLaws.{admit-refused, admit-unfit, admit-made, made-narrow}
 use Rattle.tables.proofs.admit.Statement.{statement}
 use Rattle.tables.proofs.admit.Tie as tie
-use Rattle.tables.proofs.admit.Reads as reads
-use Rattle.tables.proofs.admit.Lts as lts
-use Rattle.poly.proofs.Generator.new.Reads as new-reads
-use Rattle.tables.proofs.unfit_tables.Reads as unfit-tables-reads
 
--- src/lib.rt:195:9
 new-requires : tie.Need-new-requires
 new-requires c κs = search needs
 
--- src/lib.rt:197:31
 enum-known-made : tie.Need-enum-known-made
 enum-known-made c = search needs
 
--- src/lib.rt:198:28
 enum-known-made-2 : tie.Need-enum-known-made-2
 enum-known-made-2 c = search needs
 
--- src/lib.rt:199:16
 unfit-tables-requires : tie.Need-unfit-tables-requires
-unfit-tables-requires c κs = ?
+unfit-tables-requires c κs =
+    let s = c .before .before .before in
+    let a = s .before .args in
+    made-narrow (a .generator) (a .steps) (a .firsts) (s .new .ensures) (c .before .made2 .given .1)
 
--- src/lib.rt:200:17
 returns : tie.Need-returns
-returns c = ?
+returns c =
+    let m = c .before .before .before in
+    let s = m .before .before in
+    let a = s .before .args in
+    admit-unfit (a .generator) (a .steps) (a .firsts) (s .new .ensures) (m .made2 .given .1) (sym (c .before .unfit-tables .ensures) ∙ c .if1 .taken)
 
--- src/lib.rt:192:1
 returns-2 : tie.Need-returns-2
-returns-2 c = ?
+returns-2 c =
+    let s = c .before .before .before in
+    let a = s .before .args in
+    admit-refused (a .generator) (a .steps) (a .firsts) (s .new .ensures) (c .before .made .given .1)
 
--- src/lib.rt:192:1
 returns-3 : tie.Need-returns-3
-returns-3 c = ?
+returns-3 c =
+    let m = c .before .before .before in
+    let s = m .before .before in
+    let a = s .before .args in
+    admit-made (a .generator) (a .steps) (a .firsts) (s .new .ensures) (m .made2 .given .1) (sym (c .before .unfit-tables .ensures) ∙ c .if1 .left)
 
 pub admit-spec : {M : Type 1} → statement M
 admit-spec =

@@ -33,10 +33,11 @@ loop-less c = omega arith
 loop-again : tie.Need-loop-again Inv-loop μ-loop
 loop-again c =
     let s = c .before .loop .s in
-    let l = c .before .before .args .firsts .now in
-    (omega arith,
-    length-set (c .before .loop .firsts) s 65535 ∙ c .before .loop .inv .1,
-    ap (λ (x : List ℕ). set x s 65535) (c .before .loop .inv .2) ∙ fill-more s 65535 l (omega arith))
+    let l = c .before .before .args .firsts .now in (
+      omega arith,
+      length-set (c .before .loop .firsts) s 65535 ∙ c .before .loop .inv .1,
+      ap (λ (x : List ℕ). set x s 65535) (c .before .loop .inv .2) ∙ fill-more s 65535 l (omega arith),
+    )
 
 same-length : tie.Need-same-length Inv-loop μ-loop
 same-length c = omega arith

@@ -46,10 +46,11 @@ loop-again : tie.Need-loop-again Inv-loop μ-loop
 loop-again c =
     let l = c .before .before .loop .steps in
     let s = c .before .before .loop .s in
-    let half = c .before .before .before .before .before .args .g .bits / 2 in
-    (omega arith,
-    length-set l s (c .back .result) ∙ c .before .before .loop .inv .1,
-    entries-more (λ k. bitXor (k / 2) (k % 2 * half)) l s (c .back .result) (omega arith) (c .before .before .loop .inv .2) (c .back .ensures))
+    let half = c .before .before .before .before .before .args .g .bits / 2 in (
+      omega arith,
+      length-set l s (c .back .result) ∙ c .before .before .loop .inv .1,
+      entries-more (λ k. bitXor (k / 2) (k % 2 * half)) l s (c .back .result) (omega arith) (c .before .before .loop .inv .2) (c .back .ensures),
+    )
 
 same-length : tie.Need-same-length Inv-loop μ-loop
 same-length c = omega arith

@@ -30,8 +30,8 @@ found c =
       at = at;
       inside = omega (arith, ap length (c .pre .1 .1), length-firstTable n g);
       entry =
-        ap (λ (x : ℕ). x + 1) (ap₂ (λ (x : List ℕ) (y : ℕ). getD x y 0) (c .pre .1 .1) at ∙ getD-firstTable n g (step n g 1) low)
-        ∙ period-from-tables n g (lent .divisor) (small .positive);
+          ap (λ (x : ℕ). x + 1) (ap₂ (λ (x : List ℕ) (y : ℕ). getD x y 0) (c .pre .1 .1) at ∙ getD-firstTable n g (step n g 1) low)
+          ∙ period-from-tables n g (lent .divisor) (small .positive);
     }
 
 shared-slice-read-t : tie.Need-shared-slice-read-t

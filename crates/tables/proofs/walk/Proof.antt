@@ -32,11 +32,12 @@ loop-holds c =
     let n = c .before .args .g .degree in
     let g = c .before .args .g .bits in
     let lent = c .before .pre .0 in
-    let one = lent-small n g (c .before .args .firsts .now) lent .positive in
-    (period-positive n g (lent .divisor) one,
-    sym (power-zero n g (lent .divisor) one),
-    refl,
-    walked-none n g (c .before .args .firsts .now) (c .before .pre .1))
+    let one = lent-small n g (c .before .args .firsts .now) lent .positive in (
+      period-positive n g (lent .divisor) one,
+      sym (power-zero n g (lent .divisor) one),
+      refl,
+      walked-none n g (c .before .args .firsts .now) (c .before .pre .1),
+    )
 
 -- the position and the remainder are in range
 record Ranges (c : tie.At-loop Inv-loop μ-loop) : Type 0 where
@@ -106,11 +107,12 @@ loop-again c =
     let n = e .args .g .degree in
     let g = e .args .g .bits in
     let one = lent-small n g (e .args .firsts .now) (e .pre .0) .positive in
-    let t = turned (c .before) in
-    (not-returned n g (e .pre .0 .divisor) one (c .before .before .loop .p) (c .before .before .loop .inv .0) (λ h. c .if1 .left (t .power-of ∙ h)),
-    t .power-of,
-    t .size,
-    t .walked)
+    let t = turned (c .before) in (
+      not-returned n g (e .pre .0 .divisor) one (c .before .before .loop .p) (c .before .before .loop .inv .0) (λ h. c .if1 .left (t .power-of ∙ h)),
+      t .power-of,
+      t .size,
+      t .walked,
+    )
 
 same-length : tie.Need-same-length Inv-loop μ-loop
 same-length c = turned (c .before) .size

@@ -51,10 +51,11 @@ loop-again : tie.Need-loop-again Inv-loop μ-loop
 loop-again c =
     let at = c .before .before .before .before in
     let l = at .before .before .args .firsts .now in
-    let k = at .loop .k in
-    (omega arith,
-    gathered-more (λ j. getD l (j * 2) 0 ≡ later (getD l j 0)) k (at .loop .wrong) (bitXor (getD l (k * 2) 0) (c .later .result)) (at .loop .inv .1)
-    (mismatch (getD l (k * 2) 0) (c .later .result) (later (getD l k 0)) (c .later .ensures)))
+    let k = at .loop .k in (
+      omega arith,
+      gathered-more (λ j. getD l (j * 2) 0 ≡ later (getD l j 0)) k (at .loop .wrong) (bitXor (getD l (k * 2) 0) (c .later .result)) (at .loop .inv .1)
+          (mismatch (getD l (k * 2) 0) (c .later .result) (later (getD l k 0)) (c .later .ensures)),
+    )
 
 returns : tie.Need-returns Inv-loop μ-loop
 returns c =

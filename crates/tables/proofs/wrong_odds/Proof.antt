@@ -71,12 +71,13 @@ loop-again c =
     let l = at .before .before .before .args .firsts .now in
     let half = at .before .before .before .args .g .bits / 2 in
     let k = at .loop .k in
-    let same = mismatch (getD l (k * 2 + 1) 0) (c .later .result) (later (getD l (bitXor k half) 0)) (c .later .ensures) in
-    (omega arith,
-    omega arith,
-    gathered-more (λ j. 1 ≤ j → getD l (j * 2 + 1) 0 ≡ later (getD l (bitXor j half) 0)) k (at .loop .wrong)
-    (bitXor (getD l (k * 2 + 1) 0) (c .later .result)) (at .loop .inv .2)
-    ((λ z p. same .0 z), (λ h. same .1 (h (at .loop .inv .0)))))
+    let same = mismatch (getD l (k * 2 + 1) 0) (c .later .result) (later (getD l (bitXor k half) 0)) (c .later .ensures) in (
+      omega arith,
+      omega arith,
+      gathered-more (λ j. 1 ≤ j → getD l (j * 2 + 1) 0 ≡ later (getD l (bitXor j half) 0)) k (at .loop .wrong)
+          (bitXor (getD l (k * 2 + 1) 0) (c .later .result)) (at .loop .inv .2)
+          ((λ z p. same .0 z), (λ h. same .1 (h (at .loop .inv .0)))),
+    )
 
 returns : tie.Need-returns Inv-loop μ-loop
 returns c =

@@ -68,10 +68,11 @@ loop-again c =
     let k = at .loop .k in
     let even = mismatch (getD l (k * 2) 0) k k refl in
     let odd = mismatch (getD l (k * 2 + 1) 0) (bitXor k half) (bitXor k half) refl in
-    let both = or-zero (bitXor (getD l (k * 2) 0) k) (bitXor (getD l (k * 2 + 1) 0) (bitXor k half)) in
-    (omega arith,
-    gathered-more (λ j. (getD l (j * 2) 0 ≡ j) × (getD l (j * 2 + 1) 0 ≡ bitXor j half)) k (at .loop .wrong) _ (at .loop .inv .1)
-    ((λ z. (even .0 (both .0 z .0), odd .0 (both .0 z .1))), (λ h. both .1 (even .1 (h .0), odd .1 (h .1)))))
+    let both = or-zero (bitXor (getD l (k * 2) 0) k) (bitXor (getD l (k * 2 + 1) 0) (bitXor k half)) in (
+      omega arith,
+      gathered-more (λ j. (getD l (j * 2) 0 ≡ j) × (getD l (j * 2 + 1) 0 ≡ bitXor j half)) k (at .loop .wrong) _ (at .loop .inv .1)
+          ((λ z. (even .0 (both .0 z .0), odd .0 (both .0 z .1))), (λ h. both .1 (even .1 (h .0), odd .1 (h .1)))),
+    )
 
 returns : tie.Need-returns Inv-loop μ-loop
 returns c =
