@@ -4,3 +4,4 @@ pub mod SiftLaws
 pub mod SortedLaws
 pub mod FollowLaws
 pub mod ListingLaws
+pub mod CountLaws
