@@ -5,3 +5,5 @@ pub mod SortedLaws
 pub mod FollowLaws
 pub mod ListingLaws
 pub mod CountLaws
+pub mod PageLaws
+pub mod SequenceLaws

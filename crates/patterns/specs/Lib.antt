@@ -5,3 +5,4 @@ pub mod Listing
 pub mod Binomial
 pub mod Marks
 pub mod Pages
+pub mod Sequences
