@@ -60,9 +60,24 @@ binomial-bound l k h = omega (arith, binomial-next l k, mul-le-mul-left (binomia
 
 pub upTo-fits : (l limit : ℕ) → l ≤ 4096 → limit ≤ 6 → length (upTo l limit) < 2 ^ 64
 upTo-fits l limit h k =
-    omega
-    (arith, upTo-grows l limit 6 k, upTo-zero l, upTo-next l 0, upTo-next l 1, upTo-next l 2, upTo-next l 3, upTo-next l 4, upTo-next l 5
-    , binomial-zero l, binomial-bound l 0 h, binomial-bound l 1 h, binomial-bound l 2 h, binomial-bound l 3 h, binomial-bound l 4 h, binomial-bound l 5 h)
+    omega (
+      arith,
+      upTo-grows l limit 6 k,
+      upTo-zero l,
+      upTo-next l 0,
+      upTo-next l 1,
+      upTo-next l 2,
+      upTo-next l 3,
+      upTo-next l 4,
+      upTo-next l 5,
+      binomial-zero l,
+      binomial-bound l 0 h,
+      binomial-bound l 1 h,
+      binomial-bound l 2 h,
+      binomial-bound l 3 h,
+      binomial-bound l 4 h,
+      binomial-bound l 5 h,
+    )
 
 pub listing-fits : (n g l limit s : ℕ) → l ≤ 4096 → limit ≤ 6 → length (listing n g l limit s) < 2 ^ 64
 unfolding listing

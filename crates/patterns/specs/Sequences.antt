@@ -5,6 +5,7 @@ use mathlib.Core.List.{List, [], _∷_, _++_}
 use lib.ListN.{length, take, drop, getD}
 use Rattle.base.specs.Outcome.{Outcome, refused, accepted, Condition, judge}
 use Rattle.patterns.specs.Patterns.{Place, start, ended, after}
+use Rattle.patterns.specs.Marks.{remaining}
 use Rattle.patterns.specs.Pages.{records, fitting, Page, pageOf, pageBytes}
 
 -- ---- one call ----
@@ -50,6 +51,12 @@ reported (c ∷ cs) = c .page .written + reported cs
 unfoldable pub reached : Place → List Call → Place
 reached mark [] = mark
 reached mark (c ∷ cs) = reached (c .page .next) cs
+
+-- demand 3's sequence over the list xs: each request brings an output of its own, and its conditions at a mark
+abbrev pub pageCalls : {Request : Type 0} → List (List ℕ) → (Request → List ℕ) → (Request → Place → List Condition) → Place → List Request → List Call
+pageCalls xs output conditions =
+    calls (λ r mark. pageAnswer (conditions r mark) (remaining xs mark) (output r))
+    (λ r mark. pageOutput (conditions r mark) (remaining xs mark) (output r))
 
 -- ---- the claim ----
 
