@@ -1,12 +1,12 @@
 -- What is left of an ascending list after a mark. One law serves every kind of mark: what follows a follower follows.
 use mathlib.Core.Path.{_≡_, refl}
-use mathlib.Core.Bool.{true, false}
+use mathlib.Core.Bool.{true}
 use mathlib.Core.List.{List, [], _∷_, _++_}
 use Prim.Native.Nat.{ℕ}
 use Rattle.patterns.specs.Patterns.{Place, start, ended, after}
 use Rattle.patterns.specs.Order.{before}
 use Rattle.patterns.specs.StrictOrder.{Sorted}
-use Rattle.patterns.specs.Listing.{sift, follows}
+use Rattle.patterns.specs.Listing.{follows}
 use Rattle.patterns.specs.Marks.{remaining}
 use Rattle.patterns.specs.Pages.{lastOf}
 use Rattle.patterns.proofs.OrderLaws.{before-strict-total}

@@ -5,5 +5,8 @@ pub mod SortedLaws
 pub mod FollowLaws
 pub mod ListingLaws
 pub mod CountLaws
+pub mod MarkLaws
 pub mod PageLaws
+pub mod PositionLaws
+pub mod RecordLaws
 pub mod SequenceLaws

@@ -1,11 +1,11 @@
 -- The list of error patterns, by which it can be believed whatever its definition looks like: a set is listed exactly
 -- when it is ascending, below l, of at most so many positions and of the syndrome; and the list ascends in the order.
 -- Both are proved for any test in the syndrome's place, so the generator is never looked into.
-use mathlib.Core.Path.{_≡_, refl, sym, ap, _∙_}
-use mathlib.Core.Bool.{Bool, true, false, true≢false, _&&_}
-use mathlib.Core.Logic.{_⊎_, inl, inr, ⊎-elim, _↔_}
+use mathlib.Core.Path.{_≡_, refl, sym, ap}
+use mathlib.Core.Bool.{Bool, true, false, true≢false}
+use mathlib.Core.Logic.{⊎-elim, _↔_}
 use mathlib.Core.List.{List, [], _∷_, _++_, map}
-use Prim.Native.Nat.{ℕ, zero, suc, _+_, _<_, _≤_}
+use Prim.Native.Nat.{ℕ, zero, suc, _+_, _≤_}
 use native.Mathlib.Omega.{arith}
 use borrow.Author.Tests.{le-leb, lt-ltb, leb-true, ltb-true, eq-eqb, eqb-true}
 use lib.Dec.{eqb, ltb, leb}
@@ -16,7 +16,7 @@ use Rattle.patterns.specs.Order.{before}
 use Rattle.patterns.specs.StrictOrder.{Sorted, empty, first}
 use Rattle.patterns.specs.Listing.{Ascending, none, next, ascending, syndrome, choose, upTo, sift, listing}
 use Rattle.patterns.proofs.OrderLaws.{before-strict-total, fewer-before, lower-head-before, same-head-before}
-use Rattle.patterns.proofs.MemberLaws.{in-nothing, in-left, in-right, in-either, in-map, map-in, in-equal}
+use Rattle.patterns.proofs.MemberLaws.{in-nothing, in-left, in-right, in-either, in-map, map-in}
 use Rattle.patterns.proofs.SiftLaws.{sift-in, in-sift}
 use Rattle.patterns.proofs.SortedLaws.{sorted-append, sorted-map, sorted-sift, sorted-once, sorted-same}
 

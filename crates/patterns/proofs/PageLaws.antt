@@ -1,22 +1,21 @@
 -- One page: its patterns are the first of those that follow the mark, as many as fit; a page with room for one record
 -- writes one unless nothing follows; its bytes are the records, and beyond them what was there; and what follows the
 -- mark that it returns is what it left.
-use mathlib.Core.Path.{_≡_, refl, sym, ap, ap₂, _∙_}
-use mathlib.Core.Bool.{Bool, true, false}
-use mathlib.Core.List.{List, [], _∷_, _++_, append-assoc}
+use mathlib.Core.Path.{_≡_, refl, sym, ap, _∙_}
+use mathlib.Core.List.{List, [], _∷_, _++_, append-assoc, append-nil}
 use Prim.Native.Nat.{ℕ, zero, suc, _+_, _*_, _-_, _<_, _≤_}
 use native.Mathlib.Omega.{arith}
 use borrow.Author.Tests.{le-leb, lt-leb, leb-true, leb-false, eq-eqb, ne-eqb}
-use lib.Dec.{eqb, leb}
+use lib.Dec.{leb}
 use lib.ListN.{length, take, drop, getD, length-append, length-drop, drop-of-length-le}
-use lib.Seq.{take-append-seam, drop-append-seam}
-use Rattle.base.specs.Lists.{In, here, there}
+use lib.Seq.{take-append-seam, drop-append-seam, drop-append-add, drop-drop, append-snoc}
+use Rattle.base.specs.Lists.{In, here}
 use Rattle.base.proofs.Cases.{by-test, by-order}
-use Rattle.patterns.specs.Patterns.{Place, start, ended, after}
+use Rattle.patterns.specs.Patterns.{Place, ended, after}
 use Rattle.patterns.specs.Order.{before}
 use Rattle.patterns.specs.StrictOrder.{Sorted}
 use Rattle.patterns.specs.Marks.{remaining}
-use Rattle.patterns.specs.Pages.{places, recordOf, records, fitting, lastOf, nextPlace, Page, pageOf, pageBytes}
+use Rattle.patterns.specs.Pages.{places, recordOf, records, fitting, lastOf, nextPlace, pageOf, pageBytes}
 use Rattle.patterns.proofs.FollowLaws.{remaining-ended, remaining-last}
 
 -- ---- records ----
@@ -121,6 +120,41 @@ module _ (rest : List (List ℕ)) (out : List ℕ) where
 
   pub page-kept : drop (pageOf rest (length out) .used) (pageBytes rest out) ≡ drop (pageOf rest (length out) .used) out
   page-kept = drop-append-seam (records (fitting (length out) rest)) _
+
+-- ---- record by record ----
+
+pub records-last : (done : List (List ℕ)) (q : List ℕ) → records (done ++ q ∷ []) ≡ records done ++ recordOf q
+unfolding records
+records-last done q = records-append done (q ∷ []) ∙ ap (λ (l : List ℕ). records done ++ l) (append-nil (recordOf q))
+
+pub records-longer : (done : List (List ℕ)) (q : List ℕ) → length (records (done ++ q ∷ [])) ≡ length (records done) + length (recordOf q)
+records-longer done q = ap length (records-last done q) ∙ length-append (records done) (recordOf q)
+
+-- a page under way, with the records of `done` written, and one more put behind them
+pub page-put : (done : List (List ℕ)) (q : List ℕ) (out cur : List ℕ) → cur ≡ records done ++ drop (length (records done)) out
+    → take (length (records done)) cur ++ recordOf q ++ drop (length (records done) + length (recordOf q)) cur
+    ≡ records (done ++ q ∷ []) ++ drop (length (records (done ++ q ∷ []))) out
+page-put done q out cur e =
+    rw (e, records-longer done q, records-last done q, take-append-seam (records done), drop-append-add (records done), drop-drop)
+
+-- what fits, with `done` taken off: one more that fits, the first that does not, or no more
+pub fitting-on : (room : ℕ) (done : List (List ℕ)) (q : List ℕ) (rest whole : List (List ℕ))
+    → whole ≡ done ++ fitting (room - length (records done)) (q ∷ rest) → length (records done) + length (recordOf q) ≤ room
+    → whole ≡ (done ++ q ∷ []) ++ fitting (room - length (records (done ++ q ∷ []))) rest
+fitting-on room done q rest whole e h =
+    let less : room - length (records (done ++ q ∷ [])) ≡ room - length (records done) - length (recordOf q) = omega (arith, records-longer done q) in
+    e
+    ∙ ap (λ (l : List (List ℕ)). done ++ l) (fitting-next (room - length (records done)) q rest (omega arith))
+    ∙ sym (append-snoc done q (fitting (room - length (records done) - length (recordOf q)) rest))
+    ∙ ap (λ (i : ℕ). (done ++ q ∷ []) ++ fitting i rest) (sym less)
+
+pub fitting-off : (room : ℕ) (done : List (List ℕ)) (q : List ℕ) (rest whole : List (List ℕ))
+    → whole ≡ done ++ fitting (room - length (records done)) (q ∷ rest) → length (records done) ≤ room → room < length (records done) + length (recordOf q) → whole ≡ done
+fitting-off room done q rest whole e l h =
+    e ∙ ap (λ (r : List (List ℕ)). done ++ r) (fitting-stop (room - length (records done)) q rest (omega arith)) ∙ append-nil done
+
+pub fitting-out : (room : ℕ) (done whole : List (List ℕ)) → whole ≡ done ++ fitting (room - length (records done)) [] → whole ≡ done
+fitting-out room done whole e = e ∙ ap (λ (r : List (List ℕ)). done ++ r) (fitting-nothing (room - length (records done))) ∙ append-nil done
 
 -- ---- the mark ----
 

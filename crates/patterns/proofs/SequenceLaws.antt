@@ -1,13 +1,13 @@
 -- Demand 3's sequence of page calls, as one theorem over any list of requests. The invariant, for k records written
 -- and the mark reached: what follows the mark is the list without its first k patterns.
 use mathlib.Core.Path.{_≡_, refl, sym, ap, ap₂, _∙_}
-use mathlib.Core.Bool.{true, false}
+use mathlib.Core.Bool.{false}
 use mathlib.Core.Logic.{_⊎_, inl, inr}
 use mathlib.Core.List.{List, [], _∷_, _++_}
 use Prim.Native.Nat.{ℕ, zero, suc, _+_, _*_, _-_, _<_, _≤_}
 use native.Mathlib.Omega.{arith}
 use native.Mathlib.Nat.{add-assoc, add-zero, zero-add}
-use lib.ListN.{length, take, drop, getD, length-drop, length-append}
+use lib.ListN.{length, take, drop, getD, length-drop}
 use lib.Seq.{drop-drop, take-add, take-all, getD-drop}
 use Rattle.base.specs.Lists.{In, here, there}
 use Rattle.base.specs.Outcome.{Outcome, refused, accepted, Condition, judge}
@@ -19,7 +19,7 @@ use Rattle.patterns.specs.StrictOrder.{Sorted}
 use Rattle.patterns.specs.Listing.{listing}
 use Rattle.patterns.specs.Marks.{remaining}
 use Rattle.patterns.specs.Pages.{records, fitting, lastOf, nextPlace, Page, pageOf, pageBytes}
-use Rattle.patterns.specs.Sequences.{pageAnswer, pageOutput, Call, calls, pageCalls, joined, reported, reached, Counted, none, adds, Sequence}
+use Rattle.patterns.specs.Sequences.{pageAnswer, Call, calls, pageCalls, joined, reported, reached, Counted, none, adds, Sequence}
 use Rattle.patterns.proofs.SiftLaws.{sift-in}
 use Rattle.patterns.proofs.FollowLaws.{remaining-start}
 use Rattle.patterns.proofs.ListingLaws.{listing-sorted, listed-limit}

@@ -1,17 +1,14 @@
 -- What passes a test, in its order; and, in a list that ascends, what follows a member or a mark.
-use mathlib.Core.Path.{_≡_, refl, sym, ap, _∙_}
+use mathlib.Core.Path.{_≡_, refl}
 use mathlib.Core.Bool.{Bool, true, false, _&&_}
-use mathlib.Core.Logic.{_⊎_, inl, inr, ⊎-elim, _↔_}
+use mathlib.Core.Logic.{_↔_}
 use mathlib.Core.List.{List, [], _∷_, _++_}
-use Prim.Native.Nat.{ℕ, suc, _≤_}
+use Prim.Native.Nat.{_≤_}
 use native.Mathlib.Omega.{arith}
 use lib.ListN.{length}
-use Rattle.base.specs.Outcome.{pick}
 use Rattle.base.specs.Lists.{In, here, there}
 use Rattle.base.proofs.Cases.{by-test}
 use Rattle.patterns.specs.Listing.{sift}
-use Rattle.patterns.specs.StrictOrder.{Sorted, empty, first}
-use Rattle.patterns.proofs.MemberLaws.{in-left, in-right, in-either}
 
 module _ {A : Type 0} (P : A → Bool) where
   pub sift-keep : (x : A) (xs : List A) → P x ≡ true → sift P (x ∷ xs) ≡ x ∷ sift P xs

@@ -2,7 +2,7 @@
 -- members alone decide them, and what follows a member. All for any order that is irreflexive and transitive.
 use mathlib.Core.Path.{_≡_, refl, sym, ap, _∙_}
 use mathlib.Core.Bool.{Bool, true, false, true≢false}
-use mathlib.Core.Logic.{_⊎_, inl, inr, ⊎-elim, _↔_}
+use mathlib.Core.Logic.{⊎-elim}
 use mathlib.Core.List.{List, [], _∷_, _++_, map}
 use Prim.Native.Nat.{ℕ}
 use native.Mathlib.Omega.{arith}
@@ -10,8 +10,8 @@ use Rattle.base.specs.Lists.{In, here, there}
 use Rattle.base.proofs.Cases.{by-test}
 use Rattle.patterns.specs.Listing.{sift}
 use Rattle.patterns.specs.StrictOrder.{Sorted, empty, first, StrictTotal}
-use Rattle.patterns.proofs.MemberLaws.{in-nothing, in-left, in-right, in-either, map-in}
-use Rattle.patterns.proofs.SiftLaws.{sift-keep, sift-skip, sift-in, sift-all, sift-none, sift-append}
+use Rattle.patterns.proofs.MemberLaws.{in-nothing, in-right, in-either, map-in}
+use Rattle.patterns.proofs.SiftLaws.{sift-skip, sift-in, sift-all, sift-none, sift-append}
 
 module _ {A : Type 0} {R : A → A → Bool} where
   pub sorted-head : {x : A} {xs : List A} → Sorted R (x ∷ xs) → (y : A) → In y xs → R x y ≡ true

@@ -5,4 +5,5 @@ pub mod Listing
 pub mod Binomial
 pub mod Marks
 pub mod Pages
+pub mod RecordPut
 pub mod Sequences
