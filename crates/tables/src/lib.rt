@@ -44,7 +44,7 @@ fn back(half: u16, s: u16) -> u16
 }
 
 // x times the remainder `t`, reduced.
-fn times_x(g: Generator, t: u64) -> u64
+pub fn times_x(g: Generator, t: u64) -> u64
     requires { ⌜ (g .degree ≤ 16) × (g .bits < 2 ^ 17) × (t < 2 ^ g .degree) ⌝ }
     ensures { λ r. ⌜ r ≡ reduce (g .degree) (g .bits) (t * 2) ⌝ }
 {
