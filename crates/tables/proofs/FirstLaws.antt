@@ -1,19 +1,17 @@
 -- The first position of a remainder: it leaves that remainder, none before it does, and it is absent exactly when no power leaves it.
-use mathlib.Core.Path.{_≡_, refl, sym, ap, _∙_}
+use mathlib.Core.Path.{_≡_, sym, ap, _∙_}
 use mathlib.Core.Logic.{_↔_, _⊎_, inl, inr, ⊎-elim}
-use Prim.Native.Nat.{ℕ, zero, suc, _+_, _-_, _*_, _/_, _%_, _^_, _<_, _≤_}
+use Prim.Native.Nat.{ℕ, suc, _+_, _-_, _*_, _%_, _^_, _<_, _≤_}
 use native.Mathlib.Omega.{arith}
 use native.Mathlib.Nat.{mod-lt, mod-le}
 use borrow.Author.Tests.{eqb-true, eq-eqb}
 use lib.Dec.{eqb}
 use lib.Pow.{pow-mono, pow-pos}
-use Rattle.base.proofs.Cases.{by-order, by-equal}
-use Rattle.poly.specs.Polynomial.{reduce}
 use Rattle.poly.specs.Generators.{Divisor}
-use Rattle.tables.specs.Tables.{power, step, first, period, least, absent}
+use Rattle.tables.specs.Tables.{power, step, first, period, absent}
 use Rattle.tables.proofs.LeastLaws.{least-found, least-or-other, Least}
-use Rattle.tables.proofs.StepLaws.{step-twice, step-inverts, Inverts, rem-twice}
-use Rattle.tables.proofs.PowerLaws.{power-lt, power-suc, power-zero, power-nonzero, step-power}
+use Rattle.tables.proofs.StepLaws.{Inverts}
+use Rattle.tables.proofs.PowerLaws.{power-nonzero, step-power}
 use Rattle.tables.proofs.PeriodLaws.{period-positive, period-lt, power-period, power-turns, power-mod, power-only, power-apart}
 
 module _ (n g : ℕ) (d : Divisor n g) (atLeast : 1 ≤ n) where

@@ -1,10 +1,10 @@
 -- Mismatches gathered with OR: the gathered number is 0 exactly when all that was passed agrees.
 use mathlib.Core.Path.{_≡_, refl, sym, ap, ap₂, _∙_}
-use mathlib.Core.Bool.{Bool, true, false, _&&_}
+use mathlib.Core.Bool.{Bool, _&&_}
 use mathlib.Core.Logic.{_↔_}
-use Prim.Native.Nat.{ℕ, zero, suc, _+_, _*_, _<_, _≤_}
+use Prim.Native.Nat.{ℕ, _+_, _<_}
 use native.Mathlib.Omega.{arith}
-use borrow.Author.Tests.{eqb-true, eq-eqb, eqb-false, ne-eqb}
+use borrow.Author.Tests.{eqb-true, eqb-false, ne-eqb}
 use borrow.Author.Count.{below-more}
 use lib.Dec.{eqb}
 use lib.Bits.{bitXor, bitOr, or-add-and, and-le-l, and-le-r, or-zero-l, xor-self}

@@ -1,16 +1,16 @@
 -- The period exists below 2 ^ n: of the 2 ^ n powers below it two leave the same one of the 2 ^ n - 1 remainders other than 0.
 -- Two powers leave the same remainder exactly when they agree modulo the period.
-use mathlib.Core.Path.{_≡_, refl, sym, ap, _∙_}
+use mathlib.Core.Path.{_≡_, sym, ap, _∙_}
 use mathlib.Core.Logic.{_↔_}
 use Prim.Native.Nat.{ℕ, zero, suc, _+_, _-_, _*_, _/_, _%_, _^_, _<_, _≤_}
 use native.Mathlib.Omega.{arith}
-use native.Mathlib.Nat.{add-zero, add-comm, add-assoc, zero-mul, suc-mul, mod-lt, mod-eq-of-lt, mod-add-div', div-add-mod', add-mul-mod-self-right}
+use native.Mathlib.Nat.{add-zero, add-comm, zero-mul, suc-mul, mod-lt, mod-eq-of-lt, mod-add-div', div-add-mod', add-mul-mod-self-right}
 use borrow.Author.Tests.{eqb-true, eq-eqb}
 use lib.Dec.{eqb}
-use lib.Pow.{pow-pos, pow-mono}
+use lib.Pow.{pow-pos}
 use Rattle.base.proofs.Cases.{by-order, by-equal}
 use Rattle.poly.specs.Generators.{Divisor}
-use Rattle.tables.specs.Tables.{power, period, least}
+use Rattle.tables.specs.Tables.{power, period}
 use Rattle.tables.proofs.LeastLaws.{least-found, Least, Twice, pigeonhole}
 use Rattle.tables.proofs.PowerLaws.{power-lt, power-zero, power-nonzero, power-after, power-before}
 

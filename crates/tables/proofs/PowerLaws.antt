@@ -1,14 +1,13 @@
 -- The powers of x: each is x times the one before, none leaves 0, and what follows or precedes equal remainders is equal.
 use mathlib.Core.Path.{_≡_, refl, sym, ap, _∙_}
-use Prim.Native.Nat.{ℕ, zero, suc, _+_, _*_, _/_, _%_, _^_, _<_, _≤_}
+use Prim.Native.Nat.{ℕ, zero, suc, _+_, _*_, _^_, _<_, _≤_}
 use native.Mathlib.Omega.{arith}
-use native.Mathlib.Nat.{add-zero, add-suc, zero-add}
-use native.Mathlib.Numerals.{add-one}
+use native.Mathlib.Nat.{add-zero, add-suc}
 use lib.Pow.{pow-pos, pow-mono}
 use Rattle.base.proofs.Cases.{by-equal}
 use Rattle.poly.specs.Polynomial.{rem, reduce}
 use Rattle.poly.specs.Generators.{Divisor}
-use Rattle.poly.proofs.DivisionLaws.{reduce-low, rem-double, rem-small, rem-lt}
+use Rattle.poly.proofs.DivisionLaws.{rem-double, rem-small, rem-lt}
 use Rattle.tables.specs.Tables.{power, step}
 use Rattle.tables.proofs.StepLaws.{step-is, step-twice}
 

@@ -4,20 +4,20 @@
 use mathlib.Core.Path.{_≡_, refl, sym, ap, ap₂, _∙_}
 use mathlib.Core.List.{List}
 use mathlib.Core.Logic.{_↔_}
-use Prim.Native.Nat.{ℕ, zero, suc, _+_, _-_, _*_, _/_, _%_, _^_, _<_, _≤_}
+use Prim.Native.Nat.{ℕ, zero, suc, _+_, _*_, _/_, _%_, _^_, _<_, _≤_}
 use native.Mathlib.Omega.{arith}
 use native.Mathlib.Nat.{one-mul}
 use lib.Bits.{bitXor}
 use lib.ListN.{length, getD}
 use lib.Pow.{pow-mono, pow-pos}
 use Rattle.base.proofs.Cases.{by-order, by-equal}
-use Rattle.poly.specs.Polynomial.{rem, reduce}
+use Rattle.poly.specs.Polynomial.{reduce}
 use Rattle.poly.specs.Generators.{Divisor}
 use Rattle.tables.specs.Tables.{power, step, first, period, stepTable, firstTable}
 use Rattle.tables.specs.Rule.{later, EvenRuled, OddRuled}
 use Rattle.tables.proofs.StepLaws.{by-parity, step-is, step-halves, step-inverts, Inverts, rem-twice}
 use Rattle.tables.proofs.PowerLaws.{power-lt, power-suc, power-zero, power-nonzero, step-power}
-use Rattle.tables.proofs.PeriodLaws.{period-positive, period-lt, period-least, power-period}
+use Rattle.tables.proofs.PeriodLaws.{period-positive, period-least, power-period}
 use Rattle.tables.proofs.FirstLaws.{Found, first-found, first-hit, first-below, first-none, first-zero, first-present, period-narrow}
 use Rattle.tables.proofs.TableLaws.{getD-stepTable, stepTable-by-entries, getD-firstTable, firstTable-by-entries}
 

@@ -1,18 +1,18 @@
 -- Multiplying by x can be undone, since the generator is odd: every remainder is x times exactly one remainder, its step.
-use mathlib.Core.Path.{_≡_, refl, sym, ap, ap₂, _∙_}
-use Prim.Native.Nat.{ℕ, zero, suc, _+_, _-_, _*_, _/_, _%_, _^_, _<_, _≤_}
+use mathlib.Core.Path.{_≡_, sym, ap, ap₂, _∙_}
+use Prim.Native.Nat.{ℕ, zero, suc, _*_, _/_, _%_, _^_, _<_, _≤_}
 use native.Mathlib.Omega.{arith}
 use native.Mathlib.Nat.{zero-mul, one-mul, div-eq-of-lt, div-eq-of-lt-le, le-div-iff-mul-le}
 use borrow.Author.Tests.{eqb-true, eq-eqb}
 use lib.Dec.{eqb}
 use lib.Pow.{pow-pos}
-use lib.Bits.{bitXor, differ, xor-step, xor-zero-l, xor-zero-r, xor-self, xor-comm, xor-lt, xor-shr}
+use lib.Bits.{bitXor, differ, xor-zero-l, xor-zero-r, xor-lt, xor-shr}
 use Rattle.base.proofs.Cases.{by-order, by-equal}
-use Rattle.base.proofs.XorLaws.{xor-half, xor-low, xor-cancel, xor-ac, xor-assoc, xor-left-comm}
+use Rattle.base.proofs.XorLaws.{xor-half, xor-low, xor-ac}
 use Rattle.poly.specs.Polynomial.{rem, reduce}
 use Rattle.poly.specs.Generators.{Divisor}
-use Rattle.poly.proofs.DivisionLaws.{reduce-low, reduce-high, reduce-lt, rem-double, rem-small, rem-lt}
-use Rattle.tables.specs.Tables.{step, least}
+use Rattle.poly.proofs.DivisionLaws.{reduce-low, reduce-high, reduce-lt, rem-double, rem-small}
+use Rattle.tables.specs.Tables.{step}
 use Rattle.tables.proofs.LeastLaws.{least-found, Least}
 
 -- a digit times a number is at most that number

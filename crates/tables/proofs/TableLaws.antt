@@ -1,11 +1,9 @@
 -- The tables as lists: their lengths and entries, a list that has those entries is the table, and the tests of conditions 5 and 6 say what they mean.
 use mathlib.Core.Path.{_≡_, refl, sym, ap, ap₂, _∙_}
-use mathlib.Core.Bool.{Bool, true, false, not, _&&_, _||_, or-true}
+use mathlib.Core.Bool.{Bool, true, false, not, or-true}
 use mathlib.Core.List.{List, [], _∷_}
-use mathlib.Core.Logic.{_↔_}
-use Prim.Native.Nat.{ℕ, zero, suc, _+_, _-_, _*_, _/_, _%_, _^_, _<_, _≤_}
+use Prim.Native.Nat.{ℕ, zero, suc, _+_, _^_, _<_}
 use native.Mathlib.Omega.{arith}
-use native.Mathlib.Nat.{add-suc}
 use borrow.Author.Tests.{eqb-true, eq-eqb, eqb-false, ne-eqb, not-false}
 use lib.Dec.{eqb}
 use lib.ListN.{length, getD, set}

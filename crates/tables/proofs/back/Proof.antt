@@ -4,8 +4,6 @@ use Prim.Native.Nat.{_%_}
 use Rattle.tables.proofs.StepLaws.{digit-times}
 use Rattle.tables.proofs.back.Statement.{statement}
 use Rattle.tables.proofs.back.Tie as tie
-use Rattle.tables.proofs.back.Reads as reads
-use Rattle.tables.proofs.back.Lts as lts
 
 mul-result : tie.Need-mul-result
 mul-result c = record { fits = omega (arith, digit-times (c .args .s % 2) (c .args .half) (omega arith), c .fits .half .fits) }

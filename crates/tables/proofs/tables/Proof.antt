@@ -1,9 +1,8 @@
 -- `tables` answers by conditions 1 and 5 and then leaves both slices alone; else they hold the tables, and the answer is the period.
-use mathlib.Core.Path.{_≡_, sym, ap, _∙_}
+use mathlib.Core.Path.{sym, ap, _∙_}
 use mathlib.Core.List.{List}
 use Prim.Native.Nat.{ℕ}
 use borrow.Author.Needs.{needs}
-use lib.ListN.{length}
 use Rattle.base.specs.Outcome.{refused, accepted}
 use Rattle.poly.specs.Polynomial.{degree}
 use Rattle.poly.specs.declared.Generator.{Generator}

@@ -1,5 +1,4 @@
 -- `times_x` computes the reduction as its definition has it; the quotient is 0 or 1, so that no product is out of range.
-use mathlib.Core.Path.{_≡_}
 use Prim.Native.Nat.{_*_, _/_, _^_, _<_}
 use native.Mathlib.Omega.{arith}
 use native.Mathlib.Nat.{div-lt-iff-lt-mul}

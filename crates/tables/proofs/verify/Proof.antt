@@ -1,5 +1,5 @@
 -- `verify` is true exactly when both tables are right.
-use mathlib.Core.Path.{_≡_, ap₂, _∙_}
+use mathlib.Core.Path.{ap₂, _∙_}
 use mathlib.Core.Bool.{Bool, _&&_}
 use borrow.Author.Needs.{needs}
 use Rattle.tables.specs.Tables.{rightTables}

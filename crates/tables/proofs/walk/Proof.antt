@@ -1,10 +1,9 @@
 -- `walk` stores each power's position at its remainder, and stops at the period. The invariant: t is what x^p leaves, p is below
 -- the period, and the list holds the positions of the powers before p. The measure is what is left of the period.
-use mathlib.Core.Path.{_≡_, refl, sym, ap, _∙_}
+use mathlib.Core.Path.{_≡_, refl, sym, _∙_}
 use mathlib.Core.List.{List}
 use Prim.Native.Nat.{ℕ, _+_, _-_, _^_, _<_}
 use native.Mathlib.Omega.{arith}
-use borrow.Author.Needs.{needs}
 use lib.ListN.{length, set, length-set}
 use Rattle.tables.specs.Tables.{power, period}
 use Rattle.tables.proofs.LentLaws.{Small, lent-small}
@@ -13,9 +12,6 @@ use Rattle.tables.proofs.PeriodLaws.{period-positive, period-lt}
 use Rattle.tables.proofs.WalkLaws.{Walked, walked-none, walked-more, walked-all, power-next, returned, not-returned}
 use Rattle.tables.proofs.walk.Statement.{statement}
 use Rattle.tables.proofs.walk.Tie as tie
-use Rattle.tables.proofs.walk.Reads as reads
-use Rattle.tables.proofs.walk.Lts as lts
-use Rattle.tables.proofs.times_x.Reads as times-x-reads
 
 abbrev Inv-loop : tie.InvT-loop
 Inv-loop g firsts₀ t₀ p₀ firsts t p =

@@ -1,6 +1,5 @@
 -- `wrong_evens` tests the rule at even places. The invariant: the mismatches gathered are 0 exactly when the places passed obey it.
 use mathlib.Core.Path.{_≡_}
-use mathlib.Core.Logic.{_↔_}
 use Prim.Native.Nat.{ℕ, _-_, _*_, _/_, _≤_}
 use native.Mathlib.Omega.{arith}
 use borrow.Author.Needs.{needs}
@@ -10,8 +9,6 @@ use Rattle.tables.specs.Rule.{later}
 use Rattle.tables.proofs.GatherLaws.{Gathered, gathered-none, gathered-more, gathered-all, mismatch}
 use Rattle.tables.proofs.wrong_evens.Statement.{statement}
 use Rattle.tables.proofs.wrong_evens.Tie as tie
-use Rattle.tables.proofs.wrong_evens.Reads as reads
-use Rattle.tables.proofs.wrong_evens.Lts as lts
 
 abbrev Inv-loop : tie.InvT-loop
 Inv-loop firsts wrong₀ k₀ wrong k =

@@ -1,11 +1,8 @@
 -- `wrong_firsts` joins the three tests, which RuleLaws shows to hold of exactly the right table.
-use mathlib.Core.Path.{_≡_, refl}
-use mathlib.Core.Logic.{_↔_}
-use Prim.Native.Nat.{_/_}
 use native.Mathlib.Omega.{arith}
 use borrow.Author.Needs.{needs}
 use lib.Bits.{bitOr}
-use lib.ListN.{length, getD}
+use lib.ListN.{getD}
 use Rattle.tables.specs.Tables.{firstTable}
 use Rattle.tables.proofs.LentLaws.{Small, lent-small}
 use Rattle.tables.proofs.TableLaws.{zero-same}

@@ -1,6 +1,5 @@
 -- `wrong_odds` tests the rule at odd places above 1. The invariant: the mismatches gathered are 0 exactly when the places passed obey it.
 use mathlib.Core.Path.{_≡_, refl}
-use mathlib.Core.Logic.{_↔_}
 use Prim.Native.Nat.{ℕ, _+_, _-_, _*_, _/_, _≤_, _<_}
 use native.Mathlib.Omega.{arith}
 use borrow.Author.Needs.{needs}
@@ -9,11 +8,9 @@ use lib.ListN.{length, getD}
 use Rattle.tables.specs.Rule.{later}
 use Rattle.tables.proofs.LentLaws.{Small, lent-small}
 use Rattle.tables.proofs.RuleLaws.{odd-step-lt}
-use Rattle.tables.proofs.GatherLaws.{Gathered, gathered-none, gathered-more, gathered-all, mismatch}
+use Rattle.tables.proofs.GatherLaws.{Gathered, gathered-more, gathered-all, mismatch}
 use Rattle.tables.proofs.wrong_odds.Statement.{statement}
 use Rattle.tables.proofs.wrong_odds.Tie as tie
-use Rattle.tables.proofs.wrong_odds.Reads as reads
-use Rattle.tables.proofs.wrong_odds.Lts as lts
 
 abbrev Inv-loop : tie.InvT-loop
 Inv-loop firsts half wrong₀ k₀ wrong k =

@@ -1,10 +1,8 @@
 -- `wrong_steps` compares the step table, two entries a turn. The invariant: the mismatches gathered are 0 exactly when the pairs
 -- passed are right.
 use mathlib.Core.Path.{_≡_, refl}
-use mathlib.Core.Logic.{_↔_}
 use Prim.Native.Nat.{ℕ, _+_, _-_, _*_, _/_, _≤_}
 use native.Mathlib.Omega.{arith}
-use borrow.Author.Needs.{needs}
 use lib.Bits.{bitXor}
 use lib.ListN.{length, getD}
 use Rattle.tables.specs.Tables.{stepTable}
@@ -14,8 +12,6 @@ use Rattle.tables.proofs.RuleLaws.{step-rule}
 use Rattle.tables.proofs.GatherLaws.{Gathered, gathered-none, gathered-more, gathered-all, mismatch, or-zero}
 use Rattle.tables.proofs.wrong_steps.Statement.{statement}
 use Rattle.tables.proofs.wrong_steps.Tie as tie
-use Rattle.tables.proofs.wrong_steps.Reads as reads
-use Rattle.tables.proofs.wrong_steps.Lts as lts
 
 abbrev Inv-loop : tie.InvT-loop
 Inv-loop steps half wrong₀ k₀ wrong k =
