@@ -1,0 +1,81 @@
+// The search for the first listed error pattern, and for the first that follows one: all positions but the last are
+// forced, and the last is looked up. `pow` holds the powers of x at the positions below its length, `first` the first
+// position of each remainder. Contracts hold for any powers that the two tables describe.
+ghost use mathlib.Core.Path.{_≡_};
+ghost use Prim.Native.Nat.{ℕ, zero, _+_, _≤_, _<_};
+ghost use lib.ListN.{length, take};
+ghost use Rattle.patterns.specs.Order.{before};
+ghost use Rattle.patterns.specs.Listing.{Ascending, sift};
+ghost use Rattle.search.specs.Search.{
+  answer,
+  firstAfter,
+  firstOf,
+  found,
+  headOf,
+  listed,
+  Lookup,
+  Nearest,
+  Ready,
+  rising,
+  Shape,
+  summing,
+  Told,
+};
+
+pub enum Found {
+    At(usize),
+    Nothing,
+}
+
+// The least position at or past `lo` whose power is `u`, by the first one and the period. What it returns is at or
+// past the end of `pow` where there is none below it. The tests are in this order since they nearly always end at
+// the second.
+fn nearest(pow: &[u16], first: &[u16], period: usize, lo: usize, u: usize) -> usize
+    requires { ⌜ Ready (now pow) (now first) period lo u ⌝ }
+    ensures { λ r. ⌜ ((power : ℕ → ℕ) → Lookup power (now (pow .entry)) (now (first .entry)) period → Nearest power (length (now (pow .entry))) lo u r) ⌝ }
+{
+    let l = pow.len();
+    let f = first[u] as usize;
+    if lo <= f && f < l {
+        return f;
+    }
+    if l <= period {
+        return l;
+    }
+    if lo <= f {
+        return f;
+    }
+    f + (lo - f + period - 1) / period * period
+}
+
+// Places one position.
+fn single(pow: &[u16], first: &[u16], period: usize, lo: usize, u: usize, pos: &mut [u16]) -> bool
+    requires { ⌜ Ready (now pow) (now first) period lo u × (length (now pos) ≡ 1) ⌝ }
+    ensures { λ r. ⌜ ((power : ℕ → ℕ) → Lookup power (now (pow .entry)) (now (first .entry)) period → answer r (now (pos .exit)) ≡ firstOf power (length (now (pow .entry))) 1 lo u) ⌝ }
+{
+    let p = nearest(pow, first, period, lo, u);
+    if p < pow.len() {
+        pos[0] = p as u16;
+        return true;
+    }
+    false
+}
+
+// Places two positions: the first goes through the positions, and the second is looked up.
+fn pair(pow: &[u16], first: &[u16], period: usize, lo: usize, u: usize, pos: &mut [u16]) -> bool
+    requires { ⌜ Ready (now pow) (now first) period lo u × (length (now pos) ≡ 2) ⌝ }
+    ensures { λ r. ⌜ ((power : ℕ → ℕ) → Lookup power (now (pow .entry)) (now (first .entry)) period → answer r (now (pos .exit)) ≡ firstOf power (length (now (pow .entry))) 2 lo u) ⌝ }
+{
+    let l = pow.len();
+    let mut a = lo;
+    while a < l {
+        let b = nearest(pow, first, period, a + 1, u ^ (pow[a] as usize));
+        if b < l {
+            pos[0] = a as u16;
+            pos[1] = b as u16;
+            return true;
+        }
+        a += 1;
+    }
+    false
+}
