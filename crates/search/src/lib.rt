@@ -28,15 +28,15 @@ pub enum Found {
 }
 
 // The least position at or past `lo` whose power is `u`, by the first one and the period. What it returns is at or
-// past the end of `pow` where there is none below it. The tests are in this order since they nearly always end at
-// the second.
+// past the end of `pow` where there is none below it. The first test asks whether the first position is at or past
+// `lo` and below the length, both at once: nearly every trial fails it, and a second test would be a gamble.
 fn nearest(pow: &[u16], first: &[u16], period: usize, lo: usize, u: usize) -> usize
     requires { ⌜ Ready (now pow) (now first) period lo u ⌝ }
     ensures { λ r. ⌜ ((power : ℕ → ℕ) → Lookup power (now (pow .entry)) (now (first .entry)) period → Nearest power (length (now (pow .entry))) lo u r) ⌝ }
 {
     let l = pow.len();
     let f = first[u] as usize;
-    if lo <= f && f < l {
+    if (f + 65536 - lo) % 65536 < l - lo {
         return f;
     }
     if l <= period {

@@ -1,8 +1,6 @@
 -- `nearest` returns the nearest position: its first one, none below the length, or the first one some periods on.
-use mathlib.Core.Logic.{⊎-elim}
-use Prim.Native.Nat.{_-_, _≤_}
+use Prim.Native.Nat.{_-_}
 use borrow.Author.Needs.{needs}
-use borrow.Author.Tests.{ltb-false}
 use native.Mathlib.Omega.{arith}
 use lib.ListN.{length, getD}
 use Rattle.search.proofs.NearestLaws.{reach-bounds, near-first, near-none, near-period}
@@ -18,26 +16,32 @@ shared-slice-read-f c = search needs
 cast-f : tie.Need-cast-f
 cast-f c = omega (arith, c .shared-slice-known .given (c .before .args .u))
 
+add-if1 : tie.Need-add-if1
+add-if1 c = omega (arith, c .shared-slice-known .given (c .before .args .u))
+
+sub-if1 : tie.Need-sub-if1
+sub-if1 c = search needs
+
+sub-if1-2 : tie.Need-sub-if1-2
+sub-if1-2 c = search needs
+
 returns : tie.Need-returns
 returns c power t =
-    let s = c .before .before .before in
-    near-first t (s .args .u) (s .pre .sum) (length (s .args .pow .now)) (s .args .lo) (s .pre .shape .short) (search needs)
-
--- past the first test the first position is not between
-passed : (c : tie.Joined1)
-    → c .before .before .args .lo ≤ getD (c .before .before .args .first .now) (c .before .before .args .u) 0
-    → length (c .before .before .args .pow .now) ≤ getD (c .before .before .args .first .now) (c .before .before .args .u) 0
-passed c h = ⊎-elim (λ w. ltb-false _ _ (w .1 .left)) (λ w. absurd (omega arith)) (c .if1 .came)
+    let s = c .before .before in
+    near-first t (s .args .u) (s .pre .sum) (length (s .args .pow .now)) (s .args .lo) (s .pre .shape .short)
+    (omega (arith, c .before .shared-slice-known .given (s .args .u)))
 
 returns-2 : tie.Need-returns-2
 returns-2 c power t =
     let s = c .before .before .before in
-    near-none t (s .args .u) (s .pre .sum) (length (s .args .pow .now)) (s .args .lo) (s .pre .shape .short) (passed (c .before)) (c .if3 .taken)
+    near-none t (s .args .u) (s .pre .sum) (length (s .args .pow .now)) (s .args .lo) (s .pre .shape .short)
+    (λ h. omega (arith, c .before .before .shared-slice-known .given (s .args .u)))
+    (c .if2 .taken)
 
 returns-3 : tie.Need-returns-3
 returns-3 c power t =
     let s = c .before .before .before .before in
-    near-first t (s .args .u) (s .pre .sum) (length (s .args .pow .now)) (s .args .lo) (s .pre .shape .short) (c .if4 .taken)
+    near-first t (s .args .u) (s .pre .sum) (length (s .args .pow .now)) (s .args .lo) (s .pre .shape .short) (c .if3 .taken)
 
 sub-result : tie.Need-sub-result
 sub-result c = search needs
@@ -64,7 +68,7 @@ add-result-2 c =
 returns-4 : tie.Need-returns-4
 returns-4 c power t =
     let s = c .before .before .before .before in
-    near-period t (s .args .u) (s .pre .sum) (length (s .args .pow .now)) (s .args .lo) (s .pre .shape .short) (c .if4 .left) (s .pre .start) (s .pre .shape .positive)
+    near-period t (s .args .u) (s .pre .sum) (length (s .args .pow .now)) (s .args .lo) (s .pre .shape .short) (c .if3 .left) (s .pre .start) (s .pre .shape .positive)
 
 pub nearest-spec : {M : Type 1} → statement M
 nearest-spec =
@@ -73,6 +77,9 @@ nearest-spec =
     mul-f
     shared-slice-read-f
     cast-f
+    add-if1
+    sub-if1
+    sub-if1-2
     returns
     returns-2
     returns-3
