@@ -90,6 +90,11 @@ module _ (power : ℕ → ℕ) where
   firstOf-zero l from u =
       rw choose-zero (by-test (eqb 0 u) (λ e. rw e) (λ e. rw e))
 
+  -- no room, with whatever list of no positions
+  pub firstOf-empty : (l from u : ℕ) (xs : List ℕ) → length xs ≡ 0 → firstOf power l (length xs) from u ≡ answer (eqb 0 u) xs
+  firstOf-empty l from u [] h = firstOf-zero l from u
+  firstOf-empty l from u (x ∷ xs) h = absurd (omega arith)
+
   pub firstOf-past : (l k from u : ℕ) → l ≤ from → firstOf power l (suc k) from u ≡ nothing
   unfolding firstOf
   firstOf-past l k from u h = ap (λ (x : List (List ℕ)). headOf (summing power u x)) (choose-past l k from h) ∙ ap headOf (summing-nil u) ∙ head-nil

@@ -4,3 +4,4 @@ pub mod OrderLaws
 pub mod RisingLaws
 pub mod HeadLaws
 pub mod NearestLaws
+pub mod TailLaws

@@ -79,3 +79,41 @@ fn pair(pow: &[u16], first: &[u16], period: usize, lo: usize, u: usize, pos: &mu
     }
     false
 }
+
+// Places at most two positions.
+fn few(pow: &[u16], first: &[u16], period: usize, lo: usize, u: usize, pos: &mut [u16]) -> bool
+    requires { ⌜ Ready (now pow) (now first) period lo u × (length (now pos) ≤ 2) ⌝ }
+    ensures { λ r. ⌜ ((power : ℕ → ℕ) → Lookup power (now (pow .entry)) (now (first .entry)) period → answer r (now (pos .exit)) ≡ firstOf power (length (now (pow .entry))) (length (now (pos .entry))) lo u) ⌝ }
+{
+    if pos.len() == 2 {
+        return pair(pow, first, period, lo, u, pos);
+    }
+    if pos.len() == 1 {
+        return single(pow, first, period, lo, u, pos);
+    }
+    if u == 0 {
+        return true;
+    }
+    false
+}
+
+// Places as many positions as `pos` has room for: the first goes through the positions, and the others are placed
+// behind it.
+fn place(pow: &[u16], first: &[u16], period: usize, lo: usize, u: usize, pos: &mut [u16]) -> bool
+    requires { ⌜ Ready (now pow) (now first) period lo u ⌝ }
+    ensures { λ r. ⌜ ((power : ℕ → ℕ) → Lookup power (now (pow .entry)) (now (first .entry)) period → answer r (now (pos .exit)) ≡ firstOf power (length (now (pow .entry))) (length (now (pos .entry))) lo u) ⌝ }
+{
+    if pos.len() <= 2 {
+        return few(pow, first, period, lo, u, pos);
+    }
+    let mut a = lo;
+    while a < pow.len() {
+        let v = u ^ (pow[a] as usize);
+        if place(pow, first, period, a + 1, v, &mut pos[1..]) {
+            pos[0] = a as u16;
+            return true;
+        }
+        a += 1;
+    }
+    false
+}
