@@ -120,9 +120,11 @@ module _ (power : ℕ → ℕ) where
       choose-after l (length ps) p ps (p - from) from (omega arith) b
       ∙ sym (ap (λ (r : ℕ). sift (lower (p ∷ ps)) (choose r (suc (length ps)) zero)) (sym (sub-zero l)) ∙ choose-after l (length ps) p ps p zero (omega arith) b)
 
-  pub firstAfter-nil : (l u : ℕ) → firstAfter power l [] u ≡ nothing
+  -- nothing comes after the empty set among those of no positions
+  pub firstAfter-empty : (l u : ℕ) (xs : List ℕ) → length xs ≡ 0 → firstAfter power l xs u ≡ nothing
   unfolding firstAfter
-  firstAfter-nil l u = ap headOf (sift-none (lower []) (all-of lower-nil (summing power u (choose l zero zero)))) ∙ head-nil
+  firstAfter-empty l u (x ∷ xs) h = absurd (omega arith)
+  firstAfter-empty l u [] h = ap headOf (sift-none (lower []) (all-of lower-nil (summing power u (choose l zero zero)))) ∙ head-nil
 
   pub firstAfter-cons : (l p : ℕ) (ps : List ℕ) (u : ℕ) → Ascending l 0 (p ∷ ps)
       → firstAfter power l (p ∷ ps) u

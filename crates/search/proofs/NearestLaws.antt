@@ -118,6 +118,9 @@ pub ready-next : {pow first : List ℕ} {period lo u : ℕ} → Ready pow first 
 ready-next {pow} {first} {period} {lo} {u} r a h =
     record { shape = r .shape; start = omega arith; sum = r .shape .closed u (getD pow a 0) (r .sum) (r .shape .inside a h) }
 
+pub ready-at : {pow first : List ℕ} {period lo u : ℕ} → Ready pow first period lo u → (a : ℕ) → a ≤ length pow → Ready pow first period a u
+ready-at r a h = record { shape = r .shape; start = h; sum = r .sum }
+
 module _ {power : ℕ → ℕ} {pow first : List ℕ} {period : ℕ} (t : Lookup power pow first period) where
   pub place-turn : (k a u : ℕ) → a < length pow
       → firstOf power (length pow) (suc k) a u

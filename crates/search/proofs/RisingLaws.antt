@@ -6,12 +6,13 @@ use mathlib.Core.List.{List, [], _∷_, _++_, append-assoc, append-nil}
 use Prim.Native.Nat.{ℕ, zero, suc, _+_, _-_, _<_, _≤_}
 use native.Mathlib.Omega.{arith}
 use lib.Dec.{eqb}
-use lib.ListN.{length}
+use lib.ListN.{length, take, drop}
+use lib.Seq.{length-take-le, take-at}
 use Rattle.base.specs.Lists.{All, none, each}
 use Rattle.base.proofs.Cases.{by-order}
 use Rattle.patterns.specs.Order.{lower, before}
 use Rattle.patterns.specs.Listing.{Ascending, choose, upTo, sift}
-use Rattle.search.specs.Search.{xorAll, summing, listed, Head, nothing, leads, headOf, rising, firstOf, firstAfter, Leads}
+use Rattle.search.specs.Search.{xorAll, summing, listed, Head, nothing, leads, headOf, rising, firstOf, firstAfter, answer, Leads}
 use Rattle.search.proofs.SiftLaws.{sift-append, sift-all, sift-none, sift-same, sift-skip, sift-within, passing, all-append, all-map, all-of, all-sift}
 use Rattle.search.proofs.OrderLaws.{before-fewer, before-more, before-equal, before-irrefl, before-trans, Sorted, nil, cons, sorted-append, sorted-sift}
 use Rattle.search.proofs.ChooseLaws.{choose-count, choose-ascending, choose-sorted}
@@ -181,3 +182,23 @@ module _ (power : ℕ → ℕ) (l n s : ℕ) where
 
   pub rise-none : (k : ℕ) → headOf (summing power s (rising l k zero)) ≡ nothing
   rise-none k = ap (λ (xs : List (List ℕ)). headOf (summing power s xs)) (rising-none l k) ∙ ap headOf (summing-nil power s) ∙ head-nil
+
+-- one count tried, in a slice xs of n positions whose first k the level below was lent
+module _ (power : ℕ → ℕ) (l s n k : ℕ) (xs ys : List ℕ) (r : Bool) (room : k ≤ n) (whole : length xs ≡ n)
+    (same : length ys ≡ length (take k xs)) (told : answer r ys ≡ firstOf power l (length (take k xs)) 0 s) where
+  rise-turn : headOf (summing power s (rising l k (n + 1 - k))) ≡ orElse (answer r ys) (headOf (summing power s (rising l (k + 1) (n + 1 - (k + 1)))))
+  rise-turn =
+      let e : n + 1 - k ≡ suc (n - k) = omega arith in
+      let f : n - k ≡ n + 1 - (k + 1) = omega arith in
+      let g : suc k ≡ k + 1 = omega arith in
+      ap (λ (m : ℕ). headOf (summing power s (rising l k m))) e
+      ∙ rise-step power l n s k (n - k)
+      ∙ ap₂ orElse
+      (ap (λ (m : ℕ). firstOf power l m 0 s) (sym (length-take-le k xs (omega arith))) ∙ sym told)
+      (ap₂ (λ (a b : ℕ). headOf (summing power s (rising l a b))) g f)
+
+  pub rise-hit : r ≡ true → leads (take k (ys ++ drop k xs)) ≡ headOf (summing power s (rising l k (n + 1 - k)))
+  rise-hit e = ap leads (take-at ys (drop k xs) k (same ∙ length-take-le k xs (omega arith))) ∙ sym (rise-turn ∙ rw e)
+
+  pub rise-miss : r ≡ false → headOf (summing power s (rising l k (n + 1 - k))) ≡ headOf (summing power s (rising l (k + 1) (n + 1 - (k + 1))))
+  rise-miss e = rise-turn ∙ rw e

@@ -57,6 +57,11 @@ abbrev pub found : Found → List ℕ → Head
 found (At k) pos = leads (take k pos)
 found Nothing pos = nothing
 
+-- a count found is at most so many
+abbrev pub Counted : ℕ → Found → Type 0
+Counted limit (At k) = k ≤ limit
+Counted limit Nothing = Unit {0}
+
 -- the least position at or past lo with the power u, if it is below l; no position below l, if it is not
 pub record Nearest (power : ℕ → ℕ) (l lo u p : ℕ) : Type 0 where
   pub skipped : (q : ℕ) → lo ≤ q → q < p → q < l → power q ≡ u → ⊥

@@ -2,12 +2,13 @@
 // forced, and the last is looked up. `pow` holds the powers of x at the positions below its length, `first` the first
 // position of each remainder. Contracts hold for any powers that the two tables describe.
 ghost use mathlib.Core.Path.{_≡_};
-ghost use Prim.Native.Nat.{ℕ, zero, _+_, _≤_, _<_};
+ghost use Prim.Native.Nat.{ℕ, _+_, _-_, _≤_};
 ghost use lib.ListN.{length, take};
 ghost use Rattle.patterns.specs.Order.{before};
 ghost use Rattle.patterns.specs.Listing.{Ascending, sift};
 ghost use Rattle.search.specs.Search.{
   answer,
+  Counted,
   firstAfter,
   firstOf,
   found,
@@ -116,4 +117,82 @@ fn place(pow: &[u16], first: &[u16], period: usize, lo: usize, u: usize, pos: &m
         a += 1;
     }
     false
+}
+
+// Goes on from the positions in `pos`, which need not have the sum `u`: to the first set of as many positions that
+// comes after them.
+fn resume(pow: &[u16], first: &[u16], period: usize, u: usize, pos: &mut [u16]) -> bool
+    requires { ⌜ Ready (now pow) (now first) period 0 u × Ascending (length (now pow)) 0 (now pos) ⌝ }
+    ensures { λ r. ⌜ ((power : ℕ → ℕ) → Lookup power (now (pow .entry)) (now (first .entry)) period → answer r (now (pos .exit)) ≡ firstAfter power (length (now (pow .entry))) (now (pos .entry)) u) ⌝ }
+{
+    if pos.len() == 0 {
+        return false;
+    }
+    let p = pos[0] as usize;
+    let v = u ^ (pow[p] as usize);
+    if resume(pow, first, period, v, &mut pos[1..]) {
+        return true;
+    }
+    place(pow, first, period, p + 1, u, pos)
+}
+
+// Rises through the counts from `count` to the length of `pos`.
+fn rise(pow: &[u16], first: &[u16], period: usize, count: usize, u: usize, pos: &mut [u16]) -> Found
+    requires { ⌜ Ready (now pow) (now first) period 0 u × (count ≤ length (now pos) + 1) ⌝ }
+    ensures counted { λ r. ⌜ Counted (length (now (pos .entry))) r ⌝ }
+    ensures first { λ r. ⌜ ((power : ℕ → ℕ) → Lookup power (now (pow .entry)) (now (first .entry)) period → found r (now (pos .exit)) ≡ headOf (summing power u (rising (length (now (pow .entry))) count (length (now (pos .entry)) + 1 - count)))) ⌝ }
+{
+    let mut k = count;
+    while k <= pos.len() {
+        if place(pow, first, period, 0, u, &mut pos[..k]) {
+            return Found::At(k);
+        }
+        k += 1;
+    }
+    Found::Nothing
+}
+
+// The first listed pattern of at most as many positions as `pos` has room for: its count, and its positions in front.
+pub fn search_first(
+    pow: &[u16],
+    first: &[u16],
+    period: u64,
+    syndrome: u64,
+    pos: &mut [u16],
+) -> Found
+    requires { ⌜ Ready (now pow) (now first) period 0 syndrome ⌝ }
+    ensures { λ r. ⌜ ((power : ℕ → ℕ) → Lookup power (now (pow .entry)) (now (first .entry)) period → Told (length (now (pow .entry))) (length (now (pos .entry))) (listed power (length (now (pow .entry))) (length (now (pos .entry))) syndrome) (listed power (length (now (pow .entry))) (length (now (pos .entry))) syndrome) r (now (pos .exit))) ⌝ }
+{
+    rise(pow, first, period as usize, 0, syndrome as usize, pos)
+}
+
+// The first listed pattern that follows the one in front of `pos`, which need not be listed.
+pub fn search_next(
+    pow: &[u16],
+    first: &[u16],
+    period: u64,
+    syndrome: u64,
+    pos: &mut [u16],
+    count: usize,
+) -> Found
+    requires { ⌜ Ready (now pow) (now first) period 0 syndrome × (count ≤ length (now pos)) × Ascending (length (now pow)) 0 (take count (now pos)) ⌝ }
+    ensures { λ r. ⌜ ((power : ℕ → ℕ) → Lookup power (now (pow .entry)) (now (first .entry)) period → Told (length (now (pow .entry))) (length (now (pos .entry))) (listed power (length (now (pow .entry))) (length (now (pos .entry))) syndrome) (sift (before (take count (now (pos .entry)))) (listed power (length (now (pow .entry))) (length (now (pos .entry))) syndrome)) r (now (pos .exit))) ⌝ }
+{
+    if resume(
+        pow,
+        first,
+        period as usize,
+        syndrome as usize,
+        &mut pos[..count],
+    ) {
+        return Found::At(count);
+    }
+    rise(
+        pow,
+        first,
+        period as usize,
+        count + 1,
+        syndrome as usize,
+        pos,
+    )
 }
