@@ -5,3 +5,4 @@ pub mod RisingLaws
 pub mod HeadLaws
 pub mod NearestLaws
 pub mod TailLaws
+pub mod ToldLaws
