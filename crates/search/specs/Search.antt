@@ -89,6 +89,11 @@ pub record Ready (pow first : List ℕ) (period lo u : ℕ) : Type 0 where
   pub start : lo ≤ length pow
   pub sum : u < length first
 
+-- what placing k positions from lo on answers, for whatever powers the tables describe
+abbrev pub Placed : List ℕ → List ℕ → ℕ → ℕ → ℕ → ℕ → Bool → List ℕ → Type 0
+Placed pow first period k lo u r pos =
+    (power : ℕ → ℕ) → Lookup power pow first period → answer r pos ≡ firstOf power (length pow) k lo u
+
 -- a search through `ahead`, a part of `list` that ends where the list ends: nothing is there, or the set found
 -- leads it, and behind it stands what comes after it in the list
 pub record Leads (l : ℕ) (list ahead : List (List ℕ)) (p : List ℕ) : Type 0 where
@@ -98,3 +103,14 @@ pub record Leads (l : ℕ) (list ahead : List (List ℕ)) (p : List ℕ) : Type 
 abbrev pub Told : ℕ → ℕ → List (List ℕ) → List (List ℕ) → Found → List ℕ → Type 0
 Told l limit list ahead (At k) pos = Leads l list ahead (take k pos) × (k ≤ limit)
 Told l limit list ahead Nothing pos = ahead ≡ []
+
+-- what the two searches tell, for whatever powers the tables describe: of the list, and of what follows p in it
+abbrev pub FirstTold : List ℕ → List ℕ → ℕ → ℕ → ℕ → Found → List ℕ → Type 0
+FirstTold pow first period s limit r pos =
+    (power : ℕ → ℕ) → Lookup power pow first period
+    → Told (length pow) limit (listed power (length pow) limit s) (listed power (length pow) limit s) r pos
+
+abbrev pub NextTold : List ℕ → List ℕ → ℕ → ℕ → ℕ → List ℕ → Found → List ℕ → Type 0
+NextTold pow first period s limit p r pos =
+    (power : ℕ → ℕ) → Lookup power pow first period
+    → Told (length pow) limit (listed power (length pow) limit s) (sift (before p) (listed power (length pow) limit s)) r pos

@@ -4,23 +4,21 @@
 ghost use mathlib.Core.Path.{_≡_};
 ghost use Prim.Native.Nat.{ℕ, _+_, _-_, _≤_};
 ghost use lib.ListN.{length, take};
-ghost use Rattle.patterns.specs.Order.{before};
-ghost use Rattle.patterns.specs.Listing.{Ascending, sift};
+ghost use Rattle.patterns.specs.Listing.{Ascending};
 ghost use Rattle.search.specs.Search.{
   answer,
   Counted,
+  FirstTold,
   firstAfter,
-  firstOf,
   found,
   headOf,
-  listed,
   Lookup,
   Nearest,
+  NextTold,
+  Placed,
   Ready,
   rising,
-  Shape,
   summing,
-  Told,
 };
 
 pub enum Found {
@@ -52,7 +50,7 @@ fn nearest(pow: &[u16], first: &[u16], period: usize, lo: usize, u: usize) -> us
 // Places one position.
 fn single(pow: &[u16], first: &[u16], period: usize, lo: usize, u: usize, pos: &mut [u16]) -> bool
     requires { ⌜ Ready (now pow) (now first) period lo u × (length (now pos) ≡ 1) ⌝ }
-    ensures { λ r. ⌜ ((power : ℕ → ℕ) → Lookup power (now (pow .entry)) (now (first .entry)) period → answer r (now (pos .exit)) ≡ firstOf power (length (now (pow .entry))) 1 lo u) ⌝ }
+    ensures { λ r. ⌜ Placed (now (pow .entry)) (now (first .entry)) period 1 lo u r (now (pos .exit)) ⌝ }
 {
     let p = nearest(pow, first, period, lo, u);
     if p < pow.len() {
@@ -65,7 +63,7 @@ fn single(pow: &[u16], first: &[u16], period: usize, lo: usize, u: usize, pos: &
 // Places two positions: the first goes through the positions, and the second is looked up.
 fn pair(pow: &[u16], first: &[u16], period: usize, lo: usize, u: usize, pos: &mut [u16]) -> bool
     requires { ⌜ Ready (now pow) (now first) period lo u × (length (now pos) ≡ 2) ⌝ }
-    ensures { λ r. ⌜ ((power : ℕ → ℕ) → Lookup power (now (pow .entry)) (now (first .entry)) period → answer r (now (pos .exit)) ≡ firstOf power (length (now (pow .entry))) 2 lo u) ⌝ }
+    ensures { λ r. ⌜ Placed (now (pow .entry)) (now (first .entry)) period 2 lo u r (now (pos .exit)) ⌝ }
 {
     let l = pow.len();
     let mut a = lo;
@@ -84,7 +82,7 @@ fn pair(pow: &[u16], first: &[u16], period: usize, lo: usize, u: usize, pos: &mu
 // Places at most two positions.
 fn few(pow: &[u16], first: &[u16], period: usize, lo: usize, u: usize, pos: &mut [u16]) -> bool
     requires { ⌜ Ready (now pow) (now first) period lo u × (length (now pos) ≤ 2) ⌝ }
-    ensures { λ r. ⌜ ((power : ℕ → ℕ) → Lookup power (now (pow .entry)) (now (first .entry)) period → answer r (now (pos .exit)) ≡ firstOf power (length (now (pow .entry))) (length (now (pos .entry))) lo u) ⌝ }
+    ensures { λ r. ⌜ Placed (now (pow .entry)) (now (first .entry)) period (length (now (pos .entry))) lo u r (now (pos .exit)) ⌝ }
 {
     if pos.len() == 2 {
         return pair(pow, first, period, lo, u, pos);
@@ -102,7 +100,7 @@ fn few(pow: &[u16], first: &[u16], period: usize, lo: usize, u: usize, pos: &mut
 // behind it.
 fn place(pow: &[u16], first: &[u16], period: usize, lo: usize, u: usize, pos: &mut [u16]) -> bool
     requires { ⌜ Ready (now pow) (now first) period lo u ⌝ }
-    ensures { λ r. ⌜ ((power : ℕ → ℕ) → Lookup power (now (pow .entry)) (now (first .entry)) period → answer r (now (pos .exit)) ≡ firstOf power (length (now (pow .entry))) (length (now (pos .entry))) lo u) ⌝ }
+    ensures { λ r. ⌜ Placed (now (pow .entry)) (now (first .entry)) period (length (now (pos .entry))) lo u r (now (pos .exit)) ⌝ }
 {
     if pos.len() <= 2 {
         return few(pow, first, period, lo, u, pos);
@@ -161,7 +159,7 @@ pub fn search_first(
     pos: &mut [u16],
 ) -> Found
     requires { ⌜ Ready (now pow) (now first) period 0 syndrome ⌝ }
-    ensures { λ r. ⌜ ((power : ℕ → ℕ) → Lookup power (now (pow .entry)) (now (first .entry)) period → Told (length (now (pow .entry))) (length (now (pos .entry))) (listed power (length (now (pow .entry))) (length (now (pos .entry))) syndrome) (listed power (length (now (pow .entry))) (length (now (pos .entry))) syndrome) r (now (pos .exit))) ⌝ }
+    ensures { λ r. ⌜ FirstTold (now (pow .entry)) (now (first .entry)) period syndrome (length (now (pos .entry))) r (now (pos .exit)) ⌝ }
 {
     rise(pow, first, period as usize, 0, syndrome as usize, pos)
 }
@@ -176,7 +174,7 @@ pub fn search_next(
     count: usize,
 ) -> Found
     requires { ⌜ Ready (now pow) (now first) period 0 syndrome × (count ≤ length (now pos)) × Ascending (length (now pow)) 0 (take count (now pos)) ⌝ }
-    ensures { λ r. ⌜ ((power : ℕ → ℕ) → Lookup power (now (pow .entry)) (now (first .entry)) period → Told (length (now (pow .entry))) (length (now (pos .entry))) (listed power (length (now (pow .entry))) (length (now (pos .entry))) syndrome) (sift (before (take count (now (pos .entry)))) (listed power (length (now (pow .entry))) (length (now (pos .entry))) syndrome)) r (now (pos .exit))) ⌝ }
+    ensures { λ r. ⌜ NextTold (now (pow .entry)) (now (first .entry)) period syndrome (length (now (pos .entry))) (take count (now (pos .entry))) r (now (pos .exit)) ⌝ }
 {
     if resume(
         pow,
