@@ -5,7 +5,6 @@
 use libc::STDIN_FILENO;
 use packet::RemainderAnswer;
 use packet::SealAnswer;
-ghost use Prim.Native.Nat.{_≤_};
 
 fn print_remainder(generator: u64, packet: &[u8], separator: u8) {
     match packet::remainder(generator, packet) {
@@ -36,19 +35,13 @@ fn answer(text: &[u8], at: usize, generator: u64, packet: &mut [u8]) -> usize {
     next
 }
 
-fn least(a: u64, b: usize) -> usize
-    ensures { λ r. ⌜ r ≤ b ⌝ }
-{
-    if a < b as u64 { a as usize } else { b }
-}
-
 // One case from `at` on; the answer is the place behind it.
 fn case(text: &[u8], at: usize) -> usize {
     let high = testkit::number(text, at);
     let low = testkit::number(text, high.next);
     let len = testkit::number(text, low.next);
     let mut space = [0u8; 1024];
-    let n = least(len.value, 1024);
+    let n = io::count(len.value as isize, &space);
     answer(
         text,
         len.next,
