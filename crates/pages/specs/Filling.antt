@@ -1,15 +1,17 @@
 -- What the inner functions of a page ask and tell.
-use Prim.Native.Nat.{ℕ, _≤_}
+use mathlib.Core.Path.{_≡_}
+use Prim.Native.Nat.{ℕ, _^_, _<_, _≤_}
 use mathlib.Core.List.{List, [], _∷_}
 use lib.ListN.{length, take}
 use Rattle.poly.specs.declared.Generator.{Generator}
-use Rattle.tables.specs.Tables.{power}
+use Rattle.tables.specs.Tables.{power, stepTable, firstTable}
 use Rattle.patterns.specs.Patterns.{Place, start, ended, after}
 use Rattle.patterns.specs.Order.{before}
 use Rattle.patterns.specs.Listing.{Ascending, sift}
 use Rattle.search.specs.Search.{Ready, Lookup, listed}
 use Rattle.search.specs.declared.Found.{Found}
 use Rattle.search.specs.declared.Found.the-variants.{At, Nothing}
+use Rattle.pages.specs.Judged.{Fit}
 
 -- tables of powers and of first positions that serve to search for the sum s
 pub record Searchable (g : Generator) (pow first : List ℕ) (period s : ℕ) : Type 0 where
@@ -38,3 +40,12 @@ FoundFits l Nothing pos = Unit {0}
 abbrev pub aheadOf : List (List ℕ) → Found → List ℕ → List (List ℕ)
 aheadOf list (At k) pos = take k pos ∷ sift (before (take k pos)) list
 aheadOf list Nothing pos = []
+
+-- a length, a limit and a syndrome that are fit, with tables that are right
+pub record Listable (g : Generator) (bits limit s : ℕ) (steps firsts : List ℕ) : Type 0 where
+  pub fit : Fit g
+  pub short : bits ≤ 4096
+  pub few : limit ≤ 4
+  pub within : s < 2 ^ g .degree
+  pub stepping : steps ≡ stepTable (g .degree) (g .bits)
+  pub leading : firsts ≡ firstTable (g .degree) (g .bits)

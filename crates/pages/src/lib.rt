@@ -2,6 +2,7 @@
 use base::Refusal;
 use patterns::Mark;
 use patterns::Pattern;
+use poly::Construction;
 use poly::Generator;
 use search::Found;
 ghost use mathlib.Core.Path.{_≡_};
@@ -10,14 +11,14 @@ ghost use lib.ListN.{length, take};
 ghost use Rattle.poly.specs.Generators.{Divisor};
 ghost use Rattle.patterns.specs.Patterns.{positions, placeOf};
 ghost use Rattle.patterns.specs.Order.{before};
-ghost use Rattle.patterns.specs.Listing.{Ascending, sift};
+ghost use Rattle.patterns.specs.Listing.{Ascending, listing, sift};
 ghost use Rattle.pages.specs.Conditions.{unfitLimit, unfitSyndrome, unfitOutput};
 ghost use Rattle.tables.specs.Tables.{power, values};
 ghost use Rattle.patterns.specs.Marks.{remaining};
 ghost use Rattle.patterns.specs.Pages.{pageOf, pageBytes};
 ghost use Rattle.search.specs.Search.{Told};
-ghost use Rattle.pages.specs.Calls.{pageResult};
-ghost use Rattle.pages.specs.Filling.{Searchable, Placed, FoundFits, Marked, searched, aheadOf};
+ghost use Rattle.pages.specs.Calls.{answered, pageCall, pageLeft, pageResult};
+ghost use Rattle.pages.specs.Filling.{Listable, Searchable, Placed, FoundFits, Marked, searched, aheadOf};
 ghost use Rattle.pages.specs.Judged.{judgement, judgedPage, Fit};
 
 pub struct PageResult {
@@ -204,6 +205,140 @@ fn fill(
                 used = patterns::put_record(&pos[..k], output, used);
                 written += 1;
                 ahead = advance(g, pow, first, period, syndrome, pos, k);
+            }
+        }
+    }
+}
+
+// A page by the powers and the first positions.
+fn page_by(
+    g: Generator,
+    pow: &[u16],
+    first: &[u16],
+    period: u64,
+    syndrome: u64,
+    mark: Mark,
+    pos: &mut [u16],
+    output: &mut [u8],
+) -> PageResult
+    requires { ⌜ Searchable g (now pow) (now first) period syndrome × (Marked (length (now pow)) (length (now pos)) (placeOf mark) × (length (now pos) ≤ 4)) ⌝ }
+    ensures page { λ r. ⌜ pageResult r ≡ pageOf (remaining (searched g (now (pow .entry)) (length (now (pos .entry))) syndrome) (placeOf mark)) (length (now (output .entry))) ⌝ }
+    ensures bytes { λ _. ⌜ now (output .exit) ≡ pageBytes (remaining (searched g (now (pow .entry)) (length (now (pos .entry))) syndrome) (placeOf mark)) (now (output .entry)) ⌝ }
+{
+    let found = begin(g, pow, first, period, syndrome, mark, pos);
+    fill(g, pow, first, period, syndrome, found, pos, output)
+}
+
+// A page by tables that are right: `pow` has room for a power at each bit, `pos` for as many positions as the limit.
+fn page_within(
+    g: Generator,
+    syndrome: u64,
+    steps: &[u16],
+    firsts: &[u16],
+    mark: Mark,
+    pow: &mut [u16],
+    pos: &mut [u16],
+    output: &mut [u8],
+) -> PageResult
+    requires { ⌜ Listable g (length (now pow)) (length (now pos)) syndrome (now steps) (now firsts) × Marked (length (now pow)) (length (now pos)) (placeOf mark) ⌝ }
+    ensures page { λ r. ⌜ pageResult r ≡ pageOf (remaining (listing (g .degree) (g .bits) (length (now (pow .entry))) (length (now (pos .entry))) syndrome) (placeOf mark)) (length (now (output .entry))) ⌝ }
+    ensures bytes { λ _. ⌜ now (output .exit) ≡ pageBytes (remaining (listing (g .degree) (g .bits) (length (now (pow .entry))) (length (now (pos .entry))) syndrome) (placeOf mark)) (now (output .entry)) ⌝ }
+{
+    powers(g, pow);
+    let period = tables::period_of(g, steps, firsts);
+    page_by(g, pow, firsts, period, syndrome, mark, pos, output)
+}
+
+// The same in parts of larger slices.
+fn page_in(
+    g: Generator,
+    bits: usize,
+    limit: usize,
+    syndrome: u64,
+    steps: &[u16],
+    firsts: &[u16],
+    mark: Mark,
+    pow: &mut [u16],
+    pos: &mut [u16],
+    output: &mut [u8],
+) -> PageResult
+    requires { ⌜ Listable g bits limit syndrome (now steps) (now firsts) × (Marked bits limit (placeOf mark) × ((bits ≤ length (now pow)) × (limit ≤ length (now pos)))) ⌝ }
+    ensures page { λ r. ⌜ pageResult r ≡ pageOf (remaining (listing (g .degree) (g .bits) bits limit syndrome) (placeOf mark)) (length (now (output .entry))) ⌝ }
+    ensures bytes { λ _. ⌜ now (output .exit) ≡ pageBytes (remaining (listing (g .degree) (g .bits) bits limit syndrome) (placeOf mark)) (now (output .entry)) ⌝ }
+{
+    page_within(
+        g,
+        syndrome,
+        steps,
+        firsts,
+        mark,
+        &mut pow[..bits],
+        &mut pos[..limit],
+        output,
+    )
+}
+
+fn list_page(
+    g: Generator,
+    bits: usize,
+    limit: usize,
+    syndrome: u64,
+    steps: &[u16],
+    firsts: &[u16],
+    mark: Mark,
+    output: &mut [u8],
+) -> PageResult
+    requires { ⌜ Listable g bits limit syndrome (now steps) (now firsts) × Marked bits limit (placeOf mark) ⌝ }
+    ensures page { λ r. ⌜ pageResult r ≡ pageOf (remaining (listing (g .degree) (g .bits) bits limit syndrome) (placeOf mark)) (length (now (output .entry))) ⌝ }
+    ensures bytes { λ _. ⌜ now (output .exit) ≡ pageBytes (remaining (listing (g .degree) (g .bits) bits limit syndrome) (placeOf mark)) (now (output .entry)) ⌝ }
+{
+    let mut pow = [0u16; 4096];
+    let mut pos = [0u16; 4];
+    page_in(
+        g,
+        bits,
+        limit,
+        syndrome,
+        steps,
+        firsts,
+        mark,
+        &mut pow,
+        &mut pos,
+        output,
+    )
+}
+
+// One page of the list: the records of the listed patterns that follow the mark, as many as fit.
+pub fn page(
+    generator: u64,
+    bits: usize,
+    limit: usize,
+    syndrome: u64,
+    steps: &[u16],
+    firsts: &[u16],
+    mark: Mark,
+    output: &mut [u8],
+) -> PageAnswer
+    ensures answer { λ r. ⌜ answered r ≡ pageCall (record { generator = generator; bits = bits; limit = limit; syndrome = syndrome; steps = now (steps .entry); firsts = now (firsts .entry); output = now (output .entry) }) (placeOf mark) ⌝ }
+    ensures bytes { λ _. ⌜ now (output .exit) ≡ pageLeft (record { generator = generator; bits = bits; limit = limit; syndrome = syndrome; steps = now (steps .entry); firsts = now (firsts .entry); output = now (output .entry) }) (placeOf mark) ⌝ }
+{
+    let made = packet::admit_bits(generator, bits);
+    match made {
+        Construction::Refused(r) => PageAnswer::Refused(r),
+        Construction::Made(g) => {
+            let judged = judge_page(g, bits, limit, syndrome, steps, firsts, mark, output.len());
+            match judged {
+                Judgement::Refused(r) => PageAnswer::Refused(r),
+                Judgement::Passed => PageAnswer::Paged(list_page(
+                    g,
+                    bits,
+                    limit,
+                    syndrome,
+                    steps,
+                    firsts,
+                    mark,
+                    output,
+                )),
             }
         }
     }
