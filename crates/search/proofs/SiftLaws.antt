@@ -1,5 +1,5 @@
 -- Sifting a list: of joined and of mapped lists, twice, by tests that agree, and what holds of what is left.
-use mathlib.Core.Path.{_≡_, refl, sym, ap, _∙_}
+use mathlib.Core.Path.{_≡_, refl, ap}
 use mathlib.Core.Bool.{Bool, true, false}
 use mathlib.Core.List.{List, [], _∷_, _++_, map}
 use Rattle.base.specs.Lists.{All, none, each}

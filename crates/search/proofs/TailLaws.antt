@@ -2,7 +2,7 @@
 use mathlib.Core.Path.{_≡_, refl, sym, ap, ap₂, _∙_}
 use mathlib.Core.Bool.{Bool, true, false}
 use mathlib.Core.List.{List, [], _∷_, _++_, append-nil}
-use Prim.Native.Nat.{ℕ, zero, suc, _+_, _-_, _<_, _≤_}
+use Prim.Native.Nat.{ℕ, suc, _+_, _-_, _<_, _≤_}
 use native.Mathlib.Omega.{arith}
 use lib.Bits.{bitXor}
 use lib.Dec.{ltb}
@@ -10,7 +10,7 @@ use lib.ListN.{length, getD, take, drop, set}
 use lib.Seq.{drop-length, take-length}
 use borrow.Rule.Slice.PartMut.{midOf, putMid, mid-len}
 use Rattle.patterns.specs.Listing.{Ascending, none as ends, next}
-use Rattle.search.specs.Search.{Head, nothing, leads, firstOf, firstAfter, answer, Lookup, Nearest}
+use Rattle.search.specs.Search.{Head, leads, firstOf, firstAfter, answer, Lookup, Nearest}
 use Rattle.search.proofs.ChooseLaws.{ascending-from}
 use Rattle.search.proofs.HeadLaws.{orElse, onto, firstAfter-cons, firstAfter-empty}
 use Rattle.search.proofs.NearestLaws.{place-turn, nearest-first}
