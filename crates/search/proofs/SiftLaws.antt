@@ -7,10 +7,6 @@ use Rattle.base.proofs.Cases.{by-test}
 use Rattle.patterns.specs.Listing.{sift}
 
 module _ {A : Type 0} where
-  pub sift-keep : (P : A → Bool) (x : A) (xs : List A) → P x ≡ true → sift P (x ∷ xs) ≡ x ∷ sift P xs
-  unfolding sift
-  sift-keep P x xs e = rw e
-
   pub sift-skip : (P : A → Bool) (x : A) (xs : List A) → P x ≡ false → sift P (x ∷ xs) ≡ sift P xs
   unfolding sift
   sift-skip P x xs e = rw e
