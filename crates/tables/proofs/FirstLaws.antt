@@ -42,6 +42,10 @@ module _ (n g : ℕ) (d : Divisor n g) (atLeast : 1 ≤ n) where
   pub first-hit : (s : ℕ) → s < 2 ^ n → first n g s < 65535 → power n g (first n g s) ≡ s
   first-hit s b h = ⊎-elim (λ e. e) (λ e. absurd (omega arith)) (first-or-absent s)
 
+  -- an entry that is a position is below the period
+  pub first-early : (s : ℕ) → s < 2 ^ n → first n g s < 65535 → first n g s < period n g
+  first-early s b h = omega (arith, first-found (first n g s) .below, ap (first n g) (first-hit s b h))
+
   pub first-least : (p : ℕ) → first n g (power n g p) ≤ p
   first-least p = first-found p .early
 

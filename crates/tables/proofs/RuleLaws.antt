@@ -1,7 +1,7 @@
 -- The table of first positions by a rule between an entry and the entry at its step, so that one pass verifies it.
 -- Why the rule forces the whole table: from 1 on the powers count up from 0; and at a remainder that no power leaves, an entry
 -- below 65535 would have one less at its step, and so on without end.
-use mathlib.Core.Path.{_≡_, refl, sym, ap, ap₂, _∙_}
+use mathlib.Core.Path.{_≡_, refl, sym, ap, ap₂, subst, _∙_}
 use mathlib.Core.List.{List}
 use mathlib.Core.Logic.{_↔_}
 use Prim.Native.Nat.{ℕ, zero, suc, _+_, _*_, _/_, _%_, _^_, _<_, _≤_}
@@ -18,8 +18,8 @@ use Rattle.tables.specs.Rule.{later, EvenRuled, OddRuled}
 use Rattle.tables.proofs.StepLaws.{by-parity, step-is, step-halves, step-inverts, Inverts, rem-twice}
 use Rattle.tables.proofs.PowerLaws.{power-lt, power-suc, power-zero, power-nonzero, step-power}
 use Rattle.tables.proofs.PeriodLaws.{period-positive, period-least, power-period}
-use Rattle.tables.proofs.FirstLaws.{Found, first-found, first-hit, first-below, first-none, first-zero, first-present, period-narrow}
-use Rattle.tables.proofs.TableLaws.{getD-stepTable, stepTable-by-entries, getD-firstTable, firstTable-by-entries}
+use Rattle.tables.proofs.FirstLaws.{first-hit, first-early, first-below, first-none, first-zero, first-present, period-narrow}
+use Rattle.tables.proofs.TableLaws.{getD-stepTable, stepTable-by-entries, getD-firstTable, firstTable-by-powers}
 
 -- entry s is one position after the entry at its step, save where s is 0 or 1
 pub record Ruled (n g : ℕ) (l : List ℕ) : Type 0 where
@@ -61,9 +61,8 @@ module _ (n g : ℕ) (d : Divisor n g) (atLeast : 1 ≤ n) (atMost : n ≤ 16) w
       let t : ℕ = step n g s in
       by-order (first n g t) 65535
       (λ l.
-      let hit = first-hit n g d atLeast t (step-inverts n g d s b .below) l in
-      let early : first n g t < period n g = omega (arith, first-found n g d atLeast (first n g t) .below, ap (first n g) hit) in
-      omega (arith, follows s (first n g t) h b early hit))
+      let low = step-inverts n g d s b .below in
+      omega (arith, follows s (first n g t) h b (first-early n g d atLeast t low l) (first-hit n g d atLeast t low l)))
       (λ l.
       let none : (p : ℕ) → power n g p ≡ t → ⊥ = λ p e. omega (arith, first-present n g d atLeast atMost t p e) in
       let at-step = first-none n g d atLeast atMost t (step-inverts n g d s b .below) .1 none in
@@ -108,20 +107,10 @@ module _ (n g : ℕ) (d : Divisor n g) (atLeast : 1 ≤ n) (atMost : n ≤ 16) w
     goes-down (suc f) s b none e h =
         goes-down f (step n g s) (step-inverts n g d s b .below) (none-before s b none) (omega (arith, one-less (suc f) s b none e h)) (omega arith)
 
-    entry : (s : ℕ) → s < 2 ^ n → getD l s 0 ≡ first n g s
-    entry s b =
-        by-order (first n g s) 65535
-        (λ h.
-        let hit = first-hit n g d atLeast s b h in
-        let early : first n g s < period n g = omega (arith, first-found n g d atLeast (first n g s) .below, ap (first n g) hit) in
-        ap (λ (x : ℕ). getD l x 0) (sym hit) ∙ counts-up (first n g s) early)
-        (λ h.
-        let none : (p : ℕ) → power n g p ≡ s → ⊥ = λ p e. omega (arith, first-present n g d atLeast atMost s p e) in
-        let absent = first-none n g d atLeast atMost s b .1 none in
-        by-order (getD l s 0) 65535 (λ k. absurd (goes-down (getD l s 0) s b none refl k)) (λ k. omega (arith, fits s)))
-
     pub first-rule : length l ≡ 2 ^ n → l ≡ firstTable n g
-    first-rule e = firstTable-by-entries n g l e entry
+    first-rule e =
+        firstTable-by-powers n g d atLeast atMost l e counts-up
+        (λ s b none. by-order (getD l s 0) 65535 (λ k. absurd (goes-down (getD l s 0) s b none refl k)) (λ k. omega (arith, fits s)))
 
   -- the rule by even and odd places, where steps are halves
   module _ (l : List ℕ) (full : length l ≡ 2 ^ n) where
@@ -134,26 +123,27 @@ module _ (n g : ℕ) (d : Divisor n g) (atLeast : 1 ≤ n) (atMost : n ≤ 16) w
         let digit : (k * 2 + 1) % 2 * (g / 2) ≡ g / 2 = ap (λ (x : ℕ). x * (g / 2)) (omega arith) ∙ one-mul (g / 2) in
         step-halves n g d (k * 2 + 1) h ∙ ap₂ bitXor half digit
 
-    -- half of the entries are at even places
+    -- half of the entries are at even places, and half at odd ones
     below-half : (k : ℕ) → (k < length l / 2) ↔ (k * 2 + 1 < 2 ^ n)
     below-half k = let even = pow-even n atLeast in omega arith
+
+    by-places : (P : ℕ → Type 0) → ((k : ℕ) → k < length l / 2 → P (k * 2)) → ((k : ℕ) → k < length l / 2 → P (k * 2 + 1))
+        → (s : ℕ) → s < 2 ^ n → P s
+    by-places P even odd s b =
+        let whole = pow-even n atLeast in
+        by-parity s
+        (λ e. subst P (omega arith) (even (s / 2) (below-half (s / 2) .1 (omega arith))))
+        (λ o. subst P (omega arith) (odd (s / 2) (below-half (s / 2) .1 (omega arith))))
 
     pub ruled-by-parity : getD l 0 0 < 65536 → getD l 1 0 ≡ 0 → EvenRuled l → OddRuled (g / 2) l → Ruled n g l
     ruled-by-parity fits one even odd = record {
       zeroth = omega (arith, even 0 (below-half 0 .1 two-powers));
       one = one;
       more = λ s h b.
-          by-parity s
-          (λ e.
-          let whole : s ≡ s / 2 * 2 = omega arith in
-          let in-half : s / 2 < length l / 2 = below-half (s / 2) .1 (let p = pow-even n atLeast in omega arith) in
-          ap (λ (x : ℕ). getD l x 0) whole ∙ even (s / 2) in-half ∙ ap (λ (x : ℕ). later (getD l x 0)) (sym (step-is n g d s b .0 e)))
-          (λ o.
-          let whole : s ≡ s / 2 * 2 + 1 = omega arith in
-          let in-half : s / 2 < length l / 2 = below-half (s / 2) .1 (omega arith) in
-          ap (λ (x : ℕ). getD l x 0) whole
-          ∙ odd (s / 2) in-half (omega arith)
-          ∙ ap (λ (x : ℕ). later (getD l x 0)) (sym (ap (step n g) whole ∙ step-double-one (s / 2) (omega arith))));
+          by-places (λ (s : ℕ). 2 ≤ s → getD l s 0 ≡ later (getD l (step n g s) 0))
+          (λ k i m. even k i ∙ ap (λ (x : ℕ). later (getD l x 0)) (sym (step-double k (omega (arith, below-half k .0 i)))))
+          (λ k i m. odd k i (omega arith) ∙ ap (λ (x : ℕ). later (getD l x 0)) (sym (step-double-one k (below-half k .0 i))))
+          s b h;
     }
 
     pub ruled-even : Ruled n g l → EvenRuled l
@@ -171,17 +161,9 @@ module _ (n g : ℕ) (d : Divisor n g) (atLeast : 1 ≤ n) (atMost : n ≤ 16) w
     pub step-rule : ((k : ℕ) → k < length l / 2 → (getD l (k * 2) 0 ≡ k) × (getD l (k * 2 + 1) 0 ≡ bitXor k (g / 2))) ↔ (l ≡ stepTable n g)
     step-rule = (
       (λ rule. stepTable-by-entries n g l full
-          (λ s b. by-parity s
-          (λ e.
-          let whole : s ≡ s / 2 * 2 = omega arith in
-          let in-half : s / 2 < length l / 2 = below-half (s / 2) .1 (let p = pow-even n atLeast in omega arith) in
-          ap (λ (x : ℕ). getD l x 0) whole ∙ rule (s / 2) in-half .0 ∙ sym (step-is n g d s b .0 e))
-          (λ o.
-          let whole : s ≡ s / 2 * 2 + 1 = omega arith in
-          let in-half : s / 2 < length l / 2 = below-half (s / 2) .1 (omega arith) in
-          ap (λ (x : ℕ). getD l x 0) whole
-          ∙ rule (s / 2) in-half .1
-          ∙ sym (ap (step n g) whole ∙ step-double-one (s / 2) (omega arith))))),
+          (by-places (λ (s : ℕ). getD l s 0 ≡ step n g s)
+          (λ k i. rule k i .0 ∙ sym (step-double k (omega (arith, below-half k .0 i))))
+          (λ k i. rule k i .1 ∙ sym (step-double-one k (below-half k .0 i))))),
       (λ e k h.
           let b = below-half k .0 h in
           let entry : (s : ℕ) → s < 2 ^ n → getD l s 0 ≡ step n g s = λ s c. ap (λ (x : List ℕ). getD x s 0) e ∙ getD-stepTable n g s c in

@@ -2,15 +2,17 @@
 use mathlib.Core.Path.{_≡_, refl, sym, ap, ap₂, _∙_}
 use mathlib.Core.Bool.{Bool, true, false, not, or-true}
 use mathlib.Core.List.{List, [], _∷_}
-use Prim.Native.Nat.{ℕ, zero, suc, _+_, _^_, _<_}
+use Prim.Native.Nat.{ℕ, zero, suc, _+_, _^_, _<_, _≤_}
 use native.Mathlib.Omega.{arith}
 use borrow.Author.Tests.{eqb-true, eq-eqb, eqb-false, ne-eqb, not-false}
 use lib.Dec.{eqb}
 use lib.ListN.{length, getD, set}
 use lib.Seq.{ext-getD, getD-set-same, getD-set-other}
 use borrow.Author.Count.{below-more}
-use Rattle.base.proofs.Cases.{by-test}
-use Rattle.tables.specs.Tables.{step, first, values, stepTable, firstTable, same, unfitTables, rightTables, wrongTables}
+use Rattle.base.proofs.Cases.{by-test, by-order}
+use Rattle.poly.specs.Generators.{Divisor}
+use Rattle.tables.specs.Tables.{power, step, first, period, values, stepTable, firstTable, same, unfitTables, rightTables, wrongTables}
+use Rattle.tables.proofs.FirstLaws.{first-hit, first-early, first-present, first-none}
 
 pub length-values : (f : ℕ → ℕ) (count from : ℕ) → length (values f count from) ≡ count
 unfolding values
@@ -61,6 +63,22 @@ module _ (n g : ℕ) where
   pub firstTable-by-entries : (l : List ℕ) → length l ≡ 2 ^ n → ((s : ℕ) → s < 2 ^ n → getD l s 0 ≡ first n g s) → l ≡ firstTable n g
   unfolding firstTable
   firstTable-by-entries = values-by-entries (first n g) (2 ^ n)
+
+-- a list that has each power's position at its remainder, and the mark for absent elsewhere
+pub firstTable-by-powers : (n g : ℕ) → Divisor n g → 1 ≤ n → n ≤ 16 → (l : List ℕ) → length l ≡ 2 ^ n
+    → ((p : ℕ) → p < period n g → getD l (power n g p) 0 ≡ p)
+    → ((s : ℕ) → s < 2 ^ n → ((p : ℕ) → power n g p ≡ s → ⊥) → getD l s 0 ≡ 65535)
+    → l ≡ firstTable n g
+firstTable-by-powers n g d atLeast atMost l e at other = firstTable-by-entries n g l e entry
+  where
+    entry : (s : ℕ) → s < 2 ^ n → getD l s 0 ≡ first n g s
+    entry s b =
+        by-order (first n g s) 65535
+        (λ h.
+        ap (λ (x : ℕ). getD l x 0) (sym (first-hit n g d atLeast s b h)) ∙ at (first n g s) (first-early n g d atLeast s b h))
+        (λ h.
+        let none : (p : ℕ) → power n g p ≡ s → ⊥ = λ p z. omega (arith, first-present n g d atLeast atMost s p z) in
+        other s b none ∙ sym (first-none n g d atLeast atMost s b .1 none))
 
 apart : true ≡ false → ⊥
 apart h = let z : _≡_ {A = ℕ} 0 1 = cc in omega arith

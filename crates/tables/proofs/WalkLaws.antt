@@ -8,14 +8,14 @@ use native.Mathlib.Numerals.{add-one}
 use borrow.Author.Count.{below-more}
 use lib.ListN.{length, getD, set, replicate, getD-replicate}
 use lib.Seq.{getD-set-same, getD-set-other}
-use Rattle.base.proofs.Cases.{by-order, by-equal}
+use Rattle.base.proofs.Cases.{by-equal}
 use Rattle.poly.specs.Polynomial.{reduce}
 use Rattle.poly.specs.Generators.{Divisor}
 use Rattle.tables.specs.Tables.{power, first, period, firstTable}
 use Rattle.tables.proofs.PowerLaws.{power-lt, power-suc}
 use Rattle.tables.proofs.PeriodLaws.{period-least, power-period, power-apart}
-use Rattle.tables.proofs.FirstLaws.{Found, first-found, first-hit, first-present, first-none}
-use Rattle.tables.proofs.TableLaws.{firstTable-by-entries}
+use Rattle.tables.proofs.FirstLaws.{Found}
+use Rattle.tables.proofs.TableLaws.{firstTable-by-powers}
 
 -- the entries after the first p powers
 pub record Walked (n g p : ℕ) (l : List ℕ) : Type 0 where
@@ -56,15 +56,4 @@ module _ (n g : ℕ) (d : Divisor n g) (atLeast : 1 ≤ n) where
 
   module _ (atMost : n ≤ 16) where
     pub walked-all : (l : List ℕ) → length l ≡ 2 ^ n → Walked n g (period n g) l → l ≡ firstTable n g
-    walked-all l e w = firstTable-by-entries n g l e entry
-      where
-        entry : (s : ℕ) → s < 2 ^ n → getD l s 0 ≡ first n g s
-        entry s b =
-            by-order (first n g s) 65535
-            (λ h.
-            let hit = first-hit n g d atLeast s b h in
-            let early : first n g s < period n g = omega (arith, first-found n g d atLeast (first n g s) .below, ap (first n g) hit) in
-            ap (λ (x : ℕ). getD l x 0) (sym hit) ∙ w .passed (first n g s) early)
-            (λ h.
-            let none : (p : ℕ) → power n g p ≡ s → ⊥ = λ p z. omega (arith, first-present n g d atLeast atMost s p z) in
-            w .rest s b (λ k lt. none k) ∙ sym (first-none n g d atLeast atMost s b .1 none))
+    walked-all l e w = firstTable-by-powers n g d atLeast atMost l e (w .passed) (λ s b none. w .rest s b (λ k lt. none k))

@@ -188,7 +188,7 @@ pub fn period_of(g: Generator, steps: &[u16], firsts: &[u16]) -> u64
 }
 
 // Conditions 1 and 5, for tables of this many entries; else the generator with its degree.
-fn admit(generator: u64, steps: usize, firsts: usize) -> Construction
+pub fn admit(generator: u64, steps: usize, firsts: usize) -> Construction
     ensures { λ r. ⌜ construction r ≡ admitted generator steps firsts ⌝ }
 {
     let made = Generator::new(generator);
