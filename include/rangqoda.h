@@ -84,8 +84,9 @@
  *              RANGQODA_MARK_ENDED   behind the last
  *              0 to 4                after the pattern whose record stands
  *                                    here; it need not be a listed one
- *            Bytes behind the first, or behind the record, are not read. A
- *            mark that the library writes has zeros there.
+ *            Any other length or first byte is refused by 7. Bytes behind the
+ *            first, or behind the record, are not read; a mark that the
+ *            library writes has zeros there.
  *
  *   verdict  RANGQODA_VERDICT_BYTES bytes, written by a repair:
  *              byte 0         the kind, RANGQODA_INTACT and so on
