@@ -283,7 +283,9 @@ pub fn list(generator: u64, length: usize, limit: usize, syndrome: u64) -> Rc<Ve
     if let Some((_, list)) = kept {
         return list;
     }
-    let powers: Vec<u64> = (0..length).map(|p| power(p, generator)).collect();
+    // what each power of x leaves: the next is the one before times x
+    let powers: Vec<u64> =
+        std::iter::successors(Some(1), |&left| Some(times_x(left, generator))).take(length).collect();
     let mut found = Vec::new();
     for count in 0..=limit {
         combinations(0, length as u16, count, &mut Vec::new(), &mut |pattern| {
