@@ -177,7 +177,7 @@ fn same(verdict: Verdict, found: Found) -> bool {
 
 fn repairs(random: &mut Random, tables: &Tables, reader: &Reader, verifying: Duration) {
     println!("Repair of damaged packets (CCITT; as many bits flipped as the limit). Packets a second.");
-    println!("bytes  N   library  verifying tables    method   ratio  method, sums corrected   ratio");
+    println!("bytes  N   library  verifying tables    method     ratio  method, sums corrected     ratio");
     for (len, limit, packets, rounds) in
         [(64, 1, 200, 7), (64, 2, 200, 7), (64, 3, 100, 7), (512, 1, 200, 7), (512, 2, 100, 7), (512, 3, 5, 3)]
     {
@@ -211,7 +211,7 @@ fn repairs(random: &mut Random, tables: &Tables, reader: &Reader, verifying: Dur
         let times = race(rounds, &mut vec![0; len], clear, &mut [&mut library, &mut anew, &mut corrected]);
         let rate = |time: Duration| packets as f64 / time.as_secs_f64();
         println!(
-            "{len:5}  {limit}  {:8.0}  {:15.1}%  {:8.0}  {:6.3}  {:22.0}  {:6.3}",
+            "{len:5}  {limit}  {:8.0}  {:15.1}%  {:8.0}  {:8.4}  {:22.0}  {:8.4}",
             rate(times[0]),
             share(verifying * packets as u32, times[0]),
             rate(times[1]),
