@@ -1,0 +1,276 @@
+//! How fast the library is, beside the lookup-table method that a reader would use otherwise (`lookup.rs`) and a
+//! table-driven CRC: `cargo run --release --example bench`. Every result is compared before its time is told. All
+//! numbers are of one run; a ratio above 1 says that the library is faster.
+
+mod lookup;
+
+use lookup::{Found, Lookup, Reader, Summing, TableCrc};
+use rangqoda::{remainder, seal, stamp, Mark, Tables, Verdict, CCITT, FIVE};
+use std::hint::black_box;
+use std::time::{Duration, Instant};
+
+struct Random(u64);
+
+impl Random {
+    fn below(&mut self, bound: u64) -> u64 {
+        self.0 ^= self.0 << 13;
+        self.0 ^= self.0 >> 7;
+        self.0 ^= self.0 << 17;
+        (self.0 >> 16) % bound
+    }
+
+    fn positions(&mut self, count: usize, length: usize) -> Vec<usize> {
+        let mut positions = Vec::new();
+        while positions.len() < count {
+            let position = self.below(length as u64) as usize;
+            if !positions.contains(&position) {
+                positions.push(position);
+            }
+        }
+        positions
+    }
+}
+
+/// Runs each of the jobs in turn, `rounds` times, and gives each one's shortest time. `clear` comes before each run and
+/// is not timed.
+fn race<State>(
+    rounds: usize,
+    state: &mut State,
+    clear: fn(&mut State),
+    jobs: &mut [&mut dyn FnMut(&mut State)],
+) -> Vec<Duration> {
+    let mut best = vec![Duration::MAX; jobs.len()];
+    for _ in 0..rounds {
+        for (job, best) in jobs.iter_mut().zip(&mut best) {
+            clear(state);
+            let start = Instant::now();
+            job(state);
+            *best = start.elapsed().min(*best);
+        }
+    }
+    best
+}
+
+fn micros(time: Duration) -> f64 {
+    time.as_secs_f64() * 1e6
+}
+
+fn ratio(other: Duration, library: Duration) -> f64 {
+    other.as_secs_f64() / library.as_secs_f64()
+}
+
+/// The part in the whole, in hundredths.
+fn share(part: Duration, whole: Duration) -> f64 {
+    100.0 * part.as_secs_f64() / whole.as_secs_f64()
+}
+
+/// What a call spends on verifying the tables: a page from the mark Ended does that and no more.
+fn verifying(tables: &Tables) -> Duration {
+    let times = race(
+        30,
+        &mut [0; 9],
+        |_| (),
+        &mut [&mut |output| {
+            black_box(tables.page(17, 1, 1, Mark::Ended, output).unwrap());
+        }],
+    );
+    times[0]
+}
+
+/// The whole list, in one page and in pages of 64 KiB, beside the method's.
+fn lists(random: &mut Random, tables: &Tables, lookup: &Lookup, verifying: Duration) {
+    println!("The whole list, as records (CCITT). Milliseconds.");
+    println!(
+        "    L  N  patterns  one page  verifying tables  64 KiB pages    method  ratio of one page  of 64 KiB pages"
+    );
+    for (length, limit, rounds) in [(4096, 2, 20), (4096, 3, 7), (1024, 4, 3)] {
+        let mut packet = vec![0; length / 8];
+        for position in random.positions(limit, length) {
+            packet[position / 8] ^= 1 << (position % 8);
+        }
+        let syndrome = remainder(CCITT, &packet).unwrap();
+        let patterns = tables.patterns(length, limit, syndrome).unwrap().count();
+        let bytes = 9 * patterns.max(1);
+
+        struct State {
+            output: Vec<u8>,
+            page: Vec<u8>,
+            used: [usize; 3],
+        }
+        let mut state = State { output: vec![0; bytes], page: vec![0; 1 << 16], used: [0; 3] };
+        let clear = |state: &mut State| {
+            state.output.fill(0);
+            state.page.fill(0);
+        };
+        let mut one_page = |state: &mut State| {
+            let page = tables.page(length, limit, syndrome, Mark::Start, &mut state.output).unwrap();
+            assert_eq!((page.written, page.next), (patterns as u64, Mark::Ended));
+            state.used[0] = page.used;
+        };
+        let mut pages = |state: &mut State| {
+            let mut mark = Mark::Start;
+            state.used[1] = 0;
+            while mark != Mark::Ended {
+                let page = tables.page(length, limit, syndrome, mark, &mut state.page).unwrap();
+                state.used[1] += page.used;
+                mark = page.next;
+            }
+        };
+        let mut method = |state: &mut State| {
+            let mut used = 0;
+            lookup.patterns(syndrome as u32, length, limit, &mut |positions| {
+                let record = &mut state.output[used..used + 1 + 2 * positions.len()];
+                record[0] = positions.len() as u8;
+                for (place, position) in record[1..].chunks_exact_mut(2).zip(positions) {
+                    place.copy_from_slice(&position.to_be_bytes());
+                }
+                used += record.len();
+            });
+            state.used[2] = used;
+        };
+
+        // the same records, byte for byte
+        one_page(&mut state);
+        let records = state.output.clone();
+        clear(&mut state);
+        method(&mut state);
+        assert!(state.output == records, "the lists differ");
+
+        let times = race(rounds, &mut state, clear, &mut [&mut one_page, &mut pages, &mut method]);
+        assert!(state.used.iter().all(|&used| used == state.used[0]));
+        println!(
+            "{length:5}  {limit}  {patterns:8}  {:8.3}  {:15.1}%  {:12.3}  {:8.3}  {:17.3}  {:15.3}",
+            micros(times[0]) / 1e3,
+            share(verifying, times[0]),
+            micros(times[1]) / 1e3,
+            micros(times[2]) / 1e3,
+            ratio(times[2], times[0]),
+            ratio(times[2], times[1]),
+        );
+    }
+}
+
+/// Packets of random bytes, stamped and sealed, with as many bits flipped as the limit.
+fn damaged(random: &mut Random, packets: usize, len: usize, flips: usize) -> Vec<Vec<u8>> {
+    (0..packets)
+        .map(|_| {
+            let mut packet: Vec<u8> = (0..len).map(|_| random.below(256) as u8).collect();
+            stamp(CCITT, 0..len - 2, len - 4, &mut packet).unwrap();
+            seal(CCITT, &mut packet).unwrap();
+            for position in random.positions(flips, 8 * len) {
+                packet[position / 8] ^= 1 << (position % 8);
+            }
+            packet
+        })
+        .collect()
+}
+
+/// The library's verdict in the method's terms, but for the pattern of several, which is left open.
+fn same(verdict: Verdict, found: Found) -> bool {
+    match verdict {
+        Verdict::Intact => found.intact,
+        Verdict::Repaired(pattern) => found.passing == 1 && pattern.as_slice() == &found.positions[..found.count],
+        Verdict::Several { count, .. } => found.passing == count,
+        Verdict::None => !found.intact && found.passing == 0,
+    }
+}
+
+fn repairs(random: &mut Random, tables: &Tables, reader: &Reader, verifying: Duration) {
+    println!("Repair of damaged packets (CCITT; as many bits flipped as the limit). Packets a second.");
+    println!("bytes  N   library  verifying tables    method     ratio  method, sums corrected     ratio");
+    for (len, limit, packets, rounds) in
+        [(64, 1, 200, 7), (64, 2, 200, 7), (64, 3, 100, 7), (512, 1, 200, 7), (512, 2, 100, 7), (512, 3, 5, 3)]
+    {
+        let received = damaged(random, packets, len, limit);
+        let range = 0..len - 2;
+        for packet in &received {
+            let (mut copy, mut other) = (vec![0; len], vec![0; len]);
+            let verdict = tables.repair(range.clone(), limit, packet, &mut copy).unwrap();
+            for summing in [Summing::Anew, Summing::Corrected] {
+                other.fill(0);
+                let found = reader.repair(range.clone(), limit, packet, &mut other, summing);
+                assert!(same(verdict, found) && copy == other, "{verdict:?} {found:?}");
+            }
+        }
+        let mut library = |output: &mut Vec<u8>| {
+            for packet in &received {
+                black_box(tables.repair(range.clone(), limit, packet, output).unwrap());
+            }
+        };
+        let mut anew = |output: &mut Vec<u8>| {
+            for packet in &received {
+                black_box(reader.repair(range.clone(), limit, packet, output, Summing::Anew));
+            }
+        };
+        let mut corrected = |output: &mut Vec<u8>| {
+            for packet in &received {
+                black_box(reader.repair(range.clone(), limit, packet, output, Summing::Corrected));
+            }
+        };
+        let clear = |output: &mut Vec<u8>| output.fill(0);
+        let times = race(rounds, &mut vec![0; len], clear, &mut [&mut library, &mut anew, &mut corrected]);
+        let rate = |time: Duration| packets as f64 / time.as_secs_f64();
+        println!(
+            "{len:5}  {limit}  {:8.0}  {:15.1}%  {:8.0}  {:8.4}  {:22.0}  {:8.4}",
+            rate(times[0]),
+            share(verifying * packets as u32, times[0]),
+            rate(times[1]),
+            ratio(times[1], times[0]),
+            rate(times[2]),
+            ratio(times[2], times[0]),
+        );
+    }
+}
+
+fn remainders(random: &mut Random, crc: &TableCrc) {
+    println!("Remainder of a packet (CCITT). Nanoseconds a packet.");
+    println!("bytes   library  table-driven CRC  ratio");
+    for len in [64, 512] {
+        let packets = damaged(random, 1000, len, 1);
+        for packet in &packets {
+            assert_eq!(remainder(CCITT, packet), Ok(crc.remainder(packet).into()));
+        }
+        let mut library = |_: &mut ()| {
+            for packet in &packets {
+                black_box(remainder(CCITT, black_box(packet)).unwrap());
+            }
+        };
+        let mut plain = |_: &mut ()| {
+            for packet in &packets {
+                black_box(crc.remainder(black_box(packet)));
+            }
+        };
+        // microseconds for a thousand packets are nanoseconds for one
+        let times = race(30, &mut (), |_| (), &mut [&mut library, &mut plain]);
+        println!("{len:5}  {:8.0}  {:16.0}  {:5.2}", micros(times[0]), micros(times[1]), ratio(times[1], times[0]),);
+    }
+}
+
+/// The second column of the paper's table 3.
+const PRINTED_NEXT: [u16; 32] = [
+    23, 13, 22, 12, 21, 15, 20, 14, 19, 9, 18, 8, 17, 11, 16, 10, 31, 5, 30, 4, 29, 7, 28, 6, 27, 1, 26, 0, 25, 3, 24,
+    2,
+];
+
+fn main() {
+    assert_eq!(Lookup::new(FIVE as u32).next_column(), PRINTED_NEXT, "the method's table is not the paper's");
+    let random = &mut Random(0x1234_5678_9ABC_DEF1);
+    let tables = Tables::new(CCITT).unwrap();
+    let reader = Reader { lookup: Lookup::new(CCITT as u32), crc: TableCrc::new(CCITT as u32) };
+
+    println!(
+        "One thread; the shortest of several runs in turn. Outputs are cleared before each run, outside its time;"
+    );
+    println!(
+        "packets and tables were read before. The library verifies its tables in each call, the method trusts them."
+    );
+    println!();
+    let verifying = verifying(&tables);
+    println!("Verifying the tables (CCITT), in each page and repair: {:.1} microseconds.", micros(verifying));
+    println!();
+    lists(random, &tables, &reader.lookup, verifying);
+    println!();
+    repairs(random, &tables, &reader, verifying);
+    println!();
+    remainders(random, &reader.crc);
+}

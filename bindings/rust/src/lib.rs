@@ -1,0 +1,683 @@
+//! Error correction from CRCs, for packets of up to 512 bytes.
+//!
+//! A packet ends in a CRC and carries an Internet checksum (RFC 1071) over a part of its bytes. This crate takes
+//! [`remainder`]s and [`seal`]s packets, [`sum`]s and [`stamp`]s them, lists every set of bit errors, up to a chosen
+//! number, that can stand behind a remainder ([`page`], [`Tables::patterns`]), and [`repair`]s a packet where the
+//! checksum leaves just one of these sets.
+//!
+//! It is a safe wrapper over the C functions of a library whose every function is proved to meet its contract. The
+//! wrapper itself is not proved; it judges nothing, and passes every number, length and slice on as it got it. Whatever is
+//! unfit comes back as a [`Refusal`], and then nothing that was lent has changed.
+//!
+//! # Terms
+//!
+//! - A *generator* is a number whose bit i is the coefficient of x^i. Its degree n is the place of its highest one.
+//!   Accepted: odd, n from 3 to 16.
+//! - A packet of b bytes has L = 8b bits. *Position* 0 is the lowest bit of the last byte, position L - 1 the highest bit
+//!   of the first. Accepted: n < L ≤ 4,096. The CRC is the last n bits.
+//! - The *remainder* or *syndrome* is that of the packet's polynomial divided by the generator.
+//! - A *pattern* is a set of at most four positions below L. The *list* for a generator, L, a limit N and a syndrome is
+//!   every pattern of at most N positions with that syndrome: fewer positions first, equal counts by smallest position,
+//!   then the next, and so on.
+//! - A *range* `start..end` of packet bytes *passes* when its sum is FFFFh. Accepted: start < end and 8 end ≤ L - n.
+//!
+//! # Example
+//!
+//! ```
+//! use rangqoda::{hand_back, seal, stamp, Tables, Verdict, CCITT};
+//!
+//! // Ten bytes of data, two of checksum at byte 10, two of CRC.
+//! let mut sent = *b"channel 07\0\0\0\0";
+//! stamp(CCITT, 0..12, 10, &mut sent)?;
+//! seal(CCITT, &mut sent)?;
+//!
+//! let mut received = sent;
+//! received[3] ^= 0x10;
+//! received[8] ^= 0x01;
+//!
+//! let tables = Tables::new(CCITT)?;
+//! let mut copy = [0; 14];
+//! let verdict = tables.repair(0..12, 2, &received, &mut copy)?;
+//! assert!(matches!(verdict, Verdict::Repaired(pattern) if pattern.as_slice() == [40, 84]));
+//! assert_eq!(hand_back(&received, &copy, &verdict), sent);
+//! # Ok::<(), rangqoda::Refusal>(())
+//! ```
+
+#![warn(missing_docs)]
+
+#[allow(missing_docs)]
+pub mod ffi;
+
+use std::error::Error;
+use std::fmt;
+use std::ops::Range;
+
+/// The generator x^5 + x^4 + x^2 + 1.
+pub const FIVE: u64 = 53;
+
+/// The generator x^16 + x^12 + x^5 + 1.
+pub const CCITT: u64 = 0x11021;
+
+/// The entry of a first-position table where no power of x leaves the remainder.
+pub const NO_POSITION: u16 = 65535;
+
+/// The length of the longest record, and so of the shortest output that a page accepts.
+pub const RECORD_BYTES: usize = 9;
+
+/// The length of a mark as the C functions take it.
+pub const MARK_BYTES: usize = 9;
+
+/// The length of a verdict as the C functions write it.
+pub const VERDICT_BYTES: usize = 18;
+
+const MARK_START: u8 = 0xFE;
+const MARK_ENDED: u8 = 0xFF;
+
+/// Why a call was turned down. A call tests the conditions that are named for it, lowest first, and gives the first that
+/// applies.
+#[derive(Clone, Copy, Debug, PartialEq, Eq, PartialOrd, Ord, Hash)]
+#[repr(u32)]
+pub enum Refusal {
+    /// 1: the generator is even, or its degree is outside 3 to 16.
+    Generator = 1,
+    /// 2: L ≤ n or L > 4,096.
+    Length = 2,
+    /// 3: the limit is 0 or above 4.
+    Limit = 3,
+    /// 4: the syndrome is 2^n or more.
+    Syndrome = 4,
+    /// 5: a table has not 2^n entries.
+    TableLength = 5,
+    /// 6: a table entry is wrong.
+    TableEntry = 6,
+    /// 7: the mark's pattern is not strictly ascending, has a position not below L, or more positions than the limit.
+    Mark = 7,
+    /// 8: the output of a page has less than 9 bytes; that of a repair is not as long as the packet.
+    Output = 8,
+    /// 9: the range is not accepted.
+    Range = 9,
+    /// 10: the field is not wholly in the range, or at an odd distance from its start.
+    Field = 10,
+}
+
+impl Refusal {
+    /// Every refusal, lowest number first.
+    pub const ALL: [Refusal; 10] = [
+        Refusal::Generator,
+        Refusal::Length,
+        Refusal::Limit,
+        Refusal::Syndrome,
+        Refusal::TableLength,
+        Refusal::TableEntry,
+        Refusal::Mark,
+        Refusal::Output,
+        Refusal::Range,
+        Refusal::Field,
+    ];
+
+    /// The number of the condition, 1 to 10.
+    pub const fn number(self) -> u32 {
+        self as u32
+    }
+}
+
+impl fmt::Display for Refusal {
+    fn fmt(&self, f: &mut fmt::Formatter<'_>) -> fmt::Result {
+        let what = match self {
+            Refusal::Generator => "the generator is even, or its degree is outside 3 to 16",
+            Refusal::Length => "the length is not above the degree, or above 4096 bits",
+            Refusal::Limit => "the error limit is outside 1 to 4",
+            Refusal::Syndrome => "the syndrome does not fit the degree",
+            Refusal::TableLength => "a table has the wrong number of entries",
+            Refusal::TableEntry => "a table entry is wrong",
+            Refusal::Mark => "the mark's pattern is unfit",
+            Refusal::Output => "the output has an unfit length",
+            Refusal::Range => "the range is empty or reaches into the CRC",
+            Refusal::Field => "the field is outside the range or at an odd distance from its start",
+        };
+        write!(f, "refused {}: {}", self.number(), what)
+    }
+}
+
+impl Error for Refusal {}
+
+/// What a C function's answer says: 0 is accepted.
+fn judged(number: u32) -> Result<(), Refusal> {
+    match number {
+        0 => Ok(()),
+        1..=10 => Err(Refusal::ALL[number as usize - 1]),
+        _ => unreachable!("the library answered {number}, which names no condition"),
+    }
+}
+
+/// An error pattern: up to four bit positions.
+///
+/// Patterns from a list ascend strictly. One that a caller makes may hold any positions; a [`Mark`] with an unfit one is
+/// refused by the call that gets it. Patterns compare as the list orders them.
+///
+/// ```
+/// use rangqoda::Pattern;
+///
+/// let pattern = Pattern::new(&[3, 8]).unwrap();
+/// assert_eq!(pattern.as_slice(), [3, 8]);
+/// assert!(Pattern::new(&[40]).unwrap() < pattern);
+/// assert!(Pattern::new(&[1, 2, 3, 4, 5]).is_none());
+/// ```
+#[derive(Clone, Copy, Default, PartialEq, Eq, PartialOrd, Ord, Hash)]
+pub struct Pattern {
+    count: u8,
+    /// Zero from `count` on, so that the derived order is the list's.
+    positions: [u16; 4],
+}
+
+impl Pattern {
+    /// The pattern without positions.
+    pub const EMPTY: Pattern = Pattern { count: 0, positions: [0; 4] };
+
+    /// The pattern of these positions, in this order; `None` for more than four.
+    pub fn new(positions: &[u16]) -> Option<Pattern> {
+        let mut pattern = Pattern { count: u8::try_from(positions.len()).ok()?, ..Pattern::EMPTY };
+        pattern.positions.get_mut(..positions.len())?.copy_from_slice(positions);
+        Some(pattern)
+    }
+
+    /// The positions.
+    pub fn as_slice(&self) -> &[u16] {
+        &self.positions[..usize::from(self.count)]
+    }
+
+    /// How many positions there are.
+    pub fn len(&self) -> usize {
+        usize::from(self.count)
+    }
+
+    /// Whether there are none.
+    pub fn is_empty(&self) -> bool {
+        self.count == 0
+    }
+
+    /// Writes the record: the count, then each position in two bytes, high byte first.
+    fn write(&self, record: &mut [u8; RECORD_BYTES]) {
+        record.fill(0);
+        record[0] = self.count;
+        for (place, position) in record[1..].chunks_exact_mut(2).zip(self.as_slice()) {
+            place.copy_from_slice(&position.to_be_bytes());
+        }
+    }
+
+    /// The pattern whose record the bytes begin with, and the record's length.
+    fn read(bytes: &[u8]) -> (Pattern, usize) {
+        let used = 1 + 2 * usize::from(bytes[0]);
+        let mut pattern = Pattern { count: bytes[0], ..Pattern::EMPTY };
+        for (position, place) in pattern.positions.iter_mut().zip(bytes[1..used].chunks_exact(2)) {
+            *position = u16::from_be_bytes([place[0], place[1]]);
+        }
+        (pattern, used)
+    }
+}
+
+impl AsRef<[u16]> for Pattern {
+    fn as_ref(&self) -> &[u16] {
+        self.as_slice()
+    }
+}
+
+impl fmt::Debug for Pattern {
+    fn fmt(&self, f: &mut fmt::Formatter<'_>) -> fmt::Result {
+        f.debug_set().entries(self.as_slice()).finish()
+    }
+}
+
+/// Where a list is to be continued.
+#[derive(Clone, Copy, Debug, PartialEq, Eq, Hash)]
+pub enum Mark {
+    /// Before the first pattern.
+    Start,
+    /// Behind the last pattern.
+    Ended,
+    /// After this pattern, which need not be a listed one.
+    After(Pattern),
+}
+
+impl Mark {
+    /// The mark as the C functions take it.
+    pub fn to_bytes(self) -> [u8; MARK_BYTES] {
+        let mut bytes = [0; MARK_BYTES];
+        match self {
+            Mark::Start => bytes[0] = MARK_START,
+            Mark::Ended => bytes[0] = MARK_ENDED,
+            Mark::After(pattern) => pattern.write(&mut bytes),
+        }
+        bytes
+    }
+
+    /// The mark that the bytes stand for; `None` where the first of them is none that a mark has.
+    pub fn from_bytes(bytes: &[u8; MARK_BYTES]) -> Option<Mark> {
+        match bytes[0] {
+            MARK_START => Some(Mark::Start),
+            MARK_ENDED => Some(Mark::Ended),
+            0..=4 => Some(Mark::After(Pattern::read(bytes).0)),
+            _ => None,
+        }
+    }
+}
+
+/// What a repair found.
+#[derive(Clone, Copy, Debug, PartialEq, Eq, Hash)]
+pub enum Verdict {
+    /// The packet passes both checks as it is.
+    Intact,
+    /// Just one listed pattern leads to a packet that passes: this one. The output holds the flipped packet.
+    Repaired(Pattern),
+    /// More than one does.
+    Several {
+        /// How many.
+        count: u64,
+        /// One of them. Which one is left open.
+        pattern: Pattern,
+    },
+    /// None does.
+    None,
+}
+
+impl Verdict {
+    /// The verdict as the C functions write it.
+    pub fn to_bytes(self) -> [u8; VERDICT_BYTES] {
+        let (kind, count, pattern) = match self {
+            Verdict::Intact => (0, 0, Pattern::EMPTY),
+            Verdict::Repaired(pattern) => (1, 1, pattern),
+            Verdict::Several { count, pattern } => (2, count, pattern),
+            Verdict::None => (3, 0, Pattern::EMPTY),
+        };
+        let mut record = [0; RECORD_BYTES];
+        pattern.write(&mut record);
+        let mut bytes = [0; VERDICT_BYTES];
+        bytes[0] = kind;
+        bytes[1..9].copy_from_slice(&count.to_be_bytes());
+        bytes[9..].copy_from_slice(&record);
+        bytes
+    }
+
+    /// The verdict that the bytes stand for; `None` where the kind or the count of positions is none that a verdict has.
+    pub fn from_bytes(bytes: &[u8; VERDICT_BYTES]) -> Option<Verdict> {
+        if bytes[9] > 4 {
+            return None;
+        }
+        let count = u64::from_be_bytes(bytes[1..9].try_into().expect("eight bytes"));
+        let (pattern, _) = Pattern::read(&bytes[9..]);
+        match bytes[0] {
+            0 => Some(Verdict::Intact),
+            1 => Some(Verdict::Repaired(pattern)),
+            2 => Some(Verdict::Several { count, pattern }),
+            3 => Some(Verdict::None),
+            _ => None,
+        }
+    }
+}
+
+/// The remainder of a packet. Refused by 1, 2.
+///
+/// ```
+/// use rangqoda::{remainder, Refusal, FIVE};
+///
+/// assert_eq!(remainder(FIVE, &[0xFF, 0xFF, 0x05]), Ok(0));
+/// assert_eq!(remainder(8, &[0xFF]), Err(Refusal::Generator));
+/// ```
+pub fn remainder(generator: u64, packet: &[u8]) -> Result<u64, Refusal> {
+    let mut remainder = 0;
+    // SAFETY: a slice's pointer is good for its length, and the lent parts are borrowed apart from each other.
+    judged(unsafe { ffi::rangqoda_remainder(generator, packet.as_ptr(), packet.len(), &mut remainder) })?;
+    Ok(remainder)
+}
+
+/// Sets the last n bits of a packet so that its remainder is 0, and changes no other bit. Refused by 1, 2.
+///
+/// ```
+/// use rangqoda::{remainder, seal, CCITT};
+///
+/// let mut packet = *b"screen time\0\0";
+/// seal(CCITT, &mut packet)?;
+/// assert_eq!(remainder(CCITT, &packet), Ok(0));
+/// # Ok::<(), rangqoda::Refusal>(())
+/// ```
+pub fn seal(generator: u64, packet: &mut [u8]) -> Result<(), Refusal> {
+    // SAFETY: as in `remainder`.
+    judged(unsafe { ffi::rangqoda_seal(generator, packet.as_mut_ptr(), packet.len()) })
+}
+
+/// The sum of RFC 1071: big-endian 16-bit words, a zero byte added to an odd end, carries folded back.
+///
+/// ```
+/// assert_eq!(rangqoda::sum(&[0x00, 0x01, 0xF2, 0x03, 0xF4, 0xF5, 0xF6, 0xF7]), 0xDDF2);
+/// ```
+pub fn sum(bytes: &[u8]) -> u16 {
+    // SAFETY: as in `remainder`.
+    unsafe { ffi::rangqoda_sum(bytes.as_ptr(), bytes.len()) }
+}
+
+/// Writes FFFFh minus the sum of the range, taken with the field as zero, into the two bytes at `field`. The range then
+/// passes. `field` is a place in the packet. Refused by 1, 2, 9, 10.
+///
+/// ```
+/// use rangqoda::{stamp, sum, Refusal, CCITT};
+///
+/// let mut packet = [7, 7, 0, 0, 7, 0, 0];
+/// stamp(CCITT, 0..5, 2, &mut packet)?;
+/// assert_eq!(sum(&packet[..5]), 0xFFFF);
+/// assert_eq!(stamp(CCITT, 0..5, 1, &mut packet), Err(Refusal::Field));
+/// # Ok::<(), Refusal>(())
+/// ```
+pub fn stamp(generator: u64, range: Range<usize>, field: usize, packet: &mut [u8]) -> Result<(), Refusal> {
+    // SAFETY: as in `remainder`.
+    judged(unsafe { ffi::rangqoda_stamp(generator, range.start, range.end, field, packet.as_mut_ptr(), packet.len()) })
+}
+
+/// Fills the two lent tables of a generator, each of exactly 2^n entries, and returns the period: the least c of at least
+/// 1 with x^c leaving remainder 1. Refused by 1, 5.
+///
+/// Entry s of `step` is the one t below 2^n with t times x leaving remainder s. Entry s of `first` is the least p with
+/// x^p leaving s, or [`NO_POSITION`].
+///
+/// ```
+/// use rangqoda::{build_tables, FIVE, NO_POSITION};
+///
+/// let (mut step, mut first) = ([0; 32], [0; 32]);
+/// assert_eq!(build_tables(FIVE, &mut step, &mut first), Ok(15));
+/// assert_eq!((step[1], first[26], first[3]), (26, 14, NO_POSITION));
+/// ```
+pub fn build_tables(generator: u64, step: &mut [u16], first: &mut [u16]) -> Result<u64, Refusal> {
+    let mut period = 0;
+    // SAFETY: as in `remainder`.
+    judged(unsafe {
+        ffi::rangqoda_tables(generator, step.as_mut_ptr(), step.len(), first.as_mut_ptr(), first.len(), &mut period)
+    })?;
+    Ok(period)
+}
+
+/// The two tables of a generator, lent to a call. The call verifies every entry.
+#[derive(Clone, Copy, Debug)]
+pub struct TableSlices<'a> {
+    /// Entry s is the one t below 2^n with t times x leaving remainder s.
+    pub step: &'a [u16],
+    /// Entry s is the least p with x^p leaving s, or [`NO_POSITION`].
+    pub first: &'a [u16],
+}
+
+/// What a page holds and where the list goes on.
+#[derive(Clone, Copy, Debug, PartialEq, Eq, Hash)]
+pub struct Page {
+    /// How many bytes of the output the records take.
+    pub used: usize,
+    /// How many records there are.
+    pub written: u64,
+    /// The mark for the next page: ended exactly when no listed pattern follows.
+    pub next: Mark,
+}
+
+impl Page {
+    /// The patterns of the page, from the output that it was written to.
+    ///
+    /// # Panics
+    ///
+    /// Where `output` has fewer bytes than the page used, or other bytes than the page wrote.
+    pub fn patterns<'a>(&self, output: &'a [u8]) -> impl Iterator<Item = Pattern> + 'a {
+        let mut rest = &output[..self.used];
+        std::iter::from_fn(move || {
+            if rest.is_empty() {
+                return None;
+            }
+            let (pattern, used) = Pattern::read(rest);
+            rest = &rest[used..];
+            Some(pattern)
+        })
+    }
+}
+
+/// Writes the records of the listed patterns that follow the mark, up to the first that does not fit. Bytes beyond those
+/// used stay. `length` is in bits. Refused by 1 to 8.
+///
+/// A record is one byte, the count of positions, then the positions ascending, in two bytes each, high byte first.
+///
+/// ```
+/// use rangqoda::{page, Mark, Tables, FIVE};
+///
+/// let tables = Tables::new(FIVE)?;
+/// let mut output = [0; 16];
+/// let found = page(FIVE, 8, 2, 3, tables.as_slices(), Mark::Start, &mut output)?;
+/// assert_eq!((found.used, found.written, found.next), (10, 2, Mark::Ended));
+/// assert_eq!(output[..10], [2, 0, 0, 0, 1, 2, 0, 3, 0, 7]);
+/// # Ok::<(), rangqoda::Refusal>(())
+/// ```
+pub fn page(
+    generator: u64,
+    length: usize,
+    limit: usize,
+    syndrome: u64,
+    tables: TableSlices<'_>,
+    mark: Mark,
+    output: &mut [u8],
+) -> Result<Page, Refusal> {
+    let mut bytes = mark.to_bytes();
+    let mut used = 0;
+    let mut written = 0;
+    // SAFETY: as in `remainder`.
+    judged(unsafe {
+        ffi::rangqoda_page(
+            generator,
+            length,
+            limit,
+            syndrome,
+            tables.step.as_ptr(),
+            tables.step.len(),
+            tables.first.as_ptr(),
+            tables.first.len(),
+            bytes.as_mut_ptr(),
+            bytes.len(),
+            output.as_mut_ptr(),
+            output.len(),
+            &mut used,
+            &mut written,
+        )
+    })?;
+    let next = Mark::from_bytes(&bytes).expect("the library writes a mark");
+    Ok(Page { used, written, next })
+}
+
+/// Repairs a packet whose range carries a checksum. `output` is as long as the packet; it changes only for
+/// [`Verdict::Repaired`], when it holds the flipped packet. Refused by 1, 2, 3, 5, 6, 8, 9.
+///
+/// ```
+/// use rangqoda::{repair, Pattern, Tables, Verdict, FIVE};
+///
+/// let tables = Tables::new(FIVE)?;
+/// let mut output = [0; 3];
+/// let verdict = repair(FIVE, 0..2, 1, tables.as_slices(), &[0x7F, 0xFF, 0x05], &mut output)?;
+/// assert_eq!(verdict, Verdict::Repaired(Pattern::new(&[23]).unwrap()));
+/// assert_eq!(output, [0xFF, 0xFF, 0x05]);
+/// # Ok::<(), rangqoda::Refusal>(())
+/// ```
+pub fn repair(
+    generator: u64,
+    range: Range<usize>,
+    limit: usize,
+    tables: TableSlices<'_>,
+    packet: &[u8],
+    output: &mut [u8],
+) -> Result<Verdict, Refusal> {
+    let mut verdict = [0; VERDICT_BYTES];
+    // SAFETY: as in `remainder`.
+    judged(unsafe {
+        ffi::rangqoda_repair(
+            generator,
+            range.start,
+            range.end,
+            limit,
+            tables.step.as_ptr(),
+            tables.step.len(),
+            tables.first.as_ptr(),
+            tables.first.len(),
+            packet.as_ptr(),
+            packet.len(),
+            output.as_mut_ptr(),
+            output.len(),
+            verdict.as_mut_ptr(),
+            verdict.len(),
+        )
+    })?;
+    Ok(Verdict::from_bytes(&verdict).expect("the library writes a verdict"))
+}
+
+/// The packet to publish from after a repair: the received bytes themselves after [`Verdict::Intact`], the copy (the
+/// repair's output) after [`Verdict::Repaired`], an empty part of the received bytes otherwise.
+///
+/// ```
+/// use rangqoda::{hand_back, Verdict};
+///
+/// assert!(hand_back(b"received", b"a copy..", &Verdict::None).is_empty());
+/// ```
+pub fn hand_back<'a>(received: &'a [u8], copy: &'a [u8], verdict: &Verdict) -> &'a [u8] {
+    let bytes = verdict.to_bytes();
+    // SAFETY: as in `remainder`.
+    match unsafe { ffi::rangqoda_publish(bytes.as_ptr(), bytes.len()) } {
+        0 => received,
+        1 => copy,
+        _ => &received[..0],
+    }
+}
+
+/// The two tables of a generator and its period, built by the library and kept for many calls.
+#[derive(Clone, Debug, PartialEq, Eq)]
+pub struct Tables {
+    generator: u64,
+    step: Vec<u16>,
+    first: Vec<u16>,
+    period: u64,
+}
+
+impl Tables {
+    /// Builds the tables. Refused by 1.
+    pub fn new(generator: u64) -> Result<Tables, Refusal> {
+        // An unfit generator gets no entries: the library judges it before it looks at the tables.
+        let entries = match generator.checked_ilog2() {
+            Some(degree) if degree <= 16 => 1 << degree,
+            _ => 0,
+        };
+        let (mut step, mut first) = (vec![0; entries], vec![0; entries]);
+        let period = build_tables(generator, &mut step, &mut first)?;
+        Ok(Tables { generator, step, first, period })
+    }
+
+    /// The generator that the tables belong to.
+    pub fn generator(&self) -> u64 {
+        self.generator
+    }
+
+    /// The least c of at least 1 with x^c leaving remainder 1.
+    pub fn period(&self) -> u64 {
+        self.period
+    }
+
+    /// Both tables, to be lent.
+    pub fn as_slices(&self) -> TableSlices<'_> {
+        TableSlices { step: &self.step, first: &self.first }
+    }
+
+    /// [`page`] with these tables and their generator.
+    pub fn page(
+        &self,
+        length: usize,
+        limit: usize,
+        syndrome: u64,
+        mark: Mark,
+        output: &mut [u8],
+    ) -> Result<Page, Refusal> {
+        page(self.generator, length, limit, syndrome, self.as_slices(), mark, output)
+    }
+
+    /// [`repair`] with these tables and their generator.
+    pub fn repair(
+        &self,
+        range: Range<usize>,
+        limit: usize,
+        packet: &[u8],
+        output: &mut [u8],
+    ) -> Result<Verdict, Refusal> {
+        repair(self.generator, range, limit, self.as_slices(), packet, output)
+    }
+
+    /// Every pattern of a list, in its order. Refused by 2, 3, 4.
+    ///
+    /// ```
+    /// use rangqoda::{Tables, FIVE};
+    ///
+    /// let tables = Tables::new(FIVE)?;
+    /// let mut found = Vec::new();
+    /// for pattern in tables.patterns(9, 2, 30)? {
+    ///     found.push(pattern.as_slice().to_vec());
+    /// }
+    /// assert_eq!(found, [[0, 6], [3, 8], [5, 7]]);
+    /// # Ok::<(), rangqoda::Refusal>(())
+    /// ```
+    pub fn patterns(&self, length: usize, limit: usize, syndrome: u64) -> Result<Patterns<'_>, Refusal> {
+        let mut patterns = Patterns {
+            tables: self,
+            length,
+            limit,
+            syndrome,
+            output: vec![0; SHORT_PAGE],
+            used: 0,
+            read: 0,
+            next: Mark::Start,
+        };
+        patterns.turn()?;
+        Ok(patterns)
+    }
+}
+
+/// The bytes of an iterator's first page and of its later ones: each page verifies the tables anew, so a long list is read
+/// in long pages, and a short one takes little memory.
+const SHORT_PAGE: usize = 1 << 12;
+const LONG_PAGE: usize = 1 << 20;
+
+/// The patterns of a list, page after page. See [`Tables::patterns`].
+#[derive(Clone, Debug)]
+pub struct Patterns<'a> {
+    tables: &'a Tables,
+    length: usize,
+    limit: usize,
+    syndrome: u64,
+    output: Vec<u8>,
+    used: usize,
+    read: usize,
+    next: Mark,
+}
+
+impl Patterns<'_> {
+    /// Takes the next page into the output.
+    fn turn(&mut self) -> Result<(), Refusal> {
+        let page = self.tables.page(self.length, self.limit, self.syndrome, self.next, &mut self.output)?;
+        self.used = page.used;
+        self.read = 0;
+        self.next = page.next;
+        Ok(())
+    }
+}
+
+impl Iterator for Patterns<'_> {
+    type Item = Pattern;
+
+    fn next(&mut self) -> Option<Pattern> {
+        if self.read == self.used {
+            if self.next == Mark::Ended {
+                return None;
+            }
+            self.output.resize(LONG_PAGE, 0);
+            self.turn().expect("the first page was accepted, and its mark is the library's");
+        }
+        let (pattern, used) = Pattern::read(&self.output[self.read..]);
+        self.read += used;
+        Some(pattern)
+    }
+}
+
+impl std::iter::FusedIterator for Patterns<'_> {}

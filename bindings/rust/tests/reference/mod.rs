@@ -1,0 +1,404 @@
+//! The rules of the library once more, written plainly and slowly: long division bit by bit, every combination of
+//! positions tried, every candidate packet summed anew. The tests hold the library to it.
+//!
+//! A call gives `Err` with the number of the condition that turned it down, and then has changed nothing.
+
+use std::cell::RefCell;
+use std::rc::Rc;
+
+pub type Answer<T> = Result<T, u32>;
+
+/// A set of positions, ascending.
+pub type Pattern = Vec<u16>;
+
+#[derive(Clone, Debug, PartialEq, Eq)]
+pub enum Mark {
+    Start,
+    Ended,
+    After(Pattern),
+}
+
+/// The verdict. `Several` has every pattern that passes; the library names one of them.
+#[derive(Clone, Debug, PartialEq, Eq)]
+pub enum Verdict {
+    Intact,
+    Repaired(Pattern),
+    Several(Vec<Pattern>),
+    None,
+}
+
+// ---- polynomials
+
+/// The place of the highest one.
+pub fn degree(generator: u64) -> usize {
+    (0..64).rev().find(|i| generator >> i & 1 == 1).unwrap_or(0)
+}
+
+/// The remainder of a polynomial, given by its coefficients, highest first: bring down a bit, and take the generator away
+/// where it goes.
+pub fn divide(coefficients: impl IntoIterator<Item = bool>, generator: u64) -> u64 {
+    let n = degree(generator);
+    let mut rest = 0;
+    for bit in coefficients {
+        rest = rest << 1 | u64::from(bit);
+        if rest >> n & 1 == 1 {
+            rest ^= generator;
+        }
+    }
+    rest
+}
+
+/// What x^p leaves.
+pub fn power(p: usize, generator: u64) -> u64 {
+    divide((0..=p).rev().map(|i| i == p), generator)
+}
+
+/// What r times x leaves.
+fn times_x(r: u64, generator: u64) -> u64 {
+    let n = degree(generator);
+    divide((0..n).rev().map(|i| r >> i & 1 == 1).chain([false]), generator)
+}
+
+/// The bits of a packet, position L - 1 first.
+fn bits(packet: &[u8]) -> Vec<bool> {
+    packet.iter().flat_map(|byte| (0..8).rev().map(move |i| byte >> i & 1 == 1)).collect()
+}
+
+fn bytes(bits: &[bool]) -> Vec<u8> {
+    bits.chunks(8).map(|eight| eight.iter().fold(0, |byte, &bit| byte << 1 | u8::from(bit))).collect()
+}
+
+/// The packet with the bits at these positions flipped.
+pub fn flipped(packet: &[u8], pattern: &[u16]) -> Vec<u8> {
+    let mut bits = bits(packet);
+    let last = bits.len() - 1;
+    for &position in pattern {
+        let place = last - usize::from(position);
+        bits[place] = !bits[place];
+    }
+    bytes(&bits)
+}
+
+// ---- the conditions, each with its number; sizes as u128, so that nothing wraps
+
+fn generator_fits(generator: u64) -> Answer<usize> {
+    let n = degree(generator);
+    if generator & 1 == 0 || !(3..=16).contains(&n) {
+        return Err(1);
+    }
+    Ok(n)
+}
+
+fn length_fits(length: u128, n: usize) -> Answer<()> {
+    if length <= n as u128 || length > 4096 {
+        return Err(2);
+    }
+    Ok(())
+}
+
+fn limit_fits(limit: usize) -> Answer<()> {
+    if limit == 0 || limit > 4 {
+        return Err(3);
+    }
+    Ok(())
+}
+
+fn syndrome_fits(syndrome: u64, n: usize) -> Answer<()> {
+    if u128::from(syndrome) >= 1 << n {
+        return Err(4);
+    }
+    Ok(())
+}
+
+fn table_lengths_fit(step: &[u16], first: &[u16], n: usize) -> Answer<()> {
+    if step.len() != 1 << n || first.len() != 1 << n {
+        return Err(5);
+    }
+    Ok(())
+}
+
+fn table_entries_right(step: &[u16], first: &[u16], generator: u64) -> Answer<()> {
+    let right = tables_of(generator);
+    if step != right.step || first != right.first {
+        return Err(6);
+    }
+    Ok(())
+}
+
+fn mark_fits(mark: &Mark, length: usize, limit: usize) -> Answer<()> {
+    if let Mark::After(pattern) = mark {
+        let ascends = pattern.windows(2).all(|pair| pair[0] < pair[1]);
+        let below = pattern.iter().all(|&position| usize::from(position) < length);
+        if !ascends || !below || pattern.len() > limit {
+            return Err(7);
+        }
+    }
+    Ok(())
+}
+
+fn range_fits(start: usize, end: usize, length: u128, n: usize) -> Answer<()> {
+    if start >= end || 8 * end as u128 > length - n as u128 {
+        return Err(9);
+    }
+    Ok(())
+}
+
+fn field_fits(start: usize, end: usize, field: usize) -> Answer<()> {
+    if field < start || field as u128 + 2 > end as u128 || (field - start) & 1 == 1 {
+        return Err(10);
+    }
+    Ok(())
+}
+
+fn packet_length(packet: &[u8]) -> u128 {
+    8 * packet.len() as u128
+}
+
+// ---- remainder, seal, sum, stamp
+
+pub fn remainder(generator: u64, packet: &[u8]) -> Answer<u64> {
+    let n = generator_fits(generator)?;
+    length_fits(packet_length(packet), n)?;
+    Ok(divide(bits(packet), generator))
+}
+
+pub fn seal(generator: u64, packet: &mut [u8]) -> Answer<()> {
+    let n = generator_fits(generator)?;
+    length_fits(packet_length(packet), n)?;
+    let mut bits = bits(packet);
+    let crc = bits.len() - n;
+    bits[crc..].fill(false);
+    let r = divide(bits.iter().copied(), generator);
+    for i in 0..n {
+        bits[crc + i] = r >> (n - 1 - i) & 1 == 1;
+    }
+    packet.copy_from_slice(&bytes(&bits));
+    Ok(())
+}
+
+pub fn sum(bytes: &[u8]) -> u16 {
+    let mut padded = bytes.to_vec();
+    if padded.len() % 2 == 1 {
+        padded.push(0);
+    }
+    let mut total: u64 = padded.chunks(2).map(|word| 256 * u64::from(word[0]) + u64::from(word[1])).sum();
+    while total > 0xFFFF {
+        total = total % 0x10000 + total / 0x10000;
+    }
+    total as u16
+}
+
+pub fn stamp(generator: u64, start: usize, end: usize, field: usize, packet: &mut [u8]) -> Answer<()> {
+    let n = generator_fits(generator)?;
+    length_fits(packet_length(packet), n)?;
+    range_fits(start, end, packet_length(packet), n)?;
+    field_fits(start, end, field)?;
+    packet[field..field + 2].fill(0);
+    let value = 0xFFFF - sum(&packet[start..end]);
+    packet[field] = (value / 256) as u8;
+    packet[field + 1] = (value % 256) as u8;
+    Ok(())
+}
+
+// ---- tables
+
+#[derive(Clone, Debug, PartialEq, Eq)]
+pub struct Tables {
+    pub step: Vec<u16>,
+    pub first: Vec<u16>,
+    pub period: u64,
+}
+
+/// The tables of an accepted generator, by their definitions. The last ones are kept.
+pub fn tables_of(generator: u64) -> Rc<Tables> {
+    const KEPT: usize = 128;
+    thread_local! {
+        static LAST: RefCell<Vec<(u64, Rc<Tables>)>> = const { RefCell::new(Vec::new()) };
+    }
+    LAST.with_borrow_mut(|last| {
+        if let Some((_, tables)) = last.iter().find(|(of, _)| *of == generator) {
+            return tables.clone();
+        }
+        let tables = Rc::new(define_tables(generator));
+        last.truncate(KEPT - 1);
+        last.insert(0, (generator, tables.clone()));
+        tables
+    })
+}
+
+fn define_tables(generator: u64) -> Tables {
+    let entries = 1 << degree(generator);
+    let mut step = vec![0; entries];
+    for t in 0..entries {
+        step[times_x(t as u64, generator) as usize] = t as u16;
+    }
+    // Among more powers than there are remainders every remainder that a power leaves has been seen.
+    let mut first = vec![65535; entries];
+    let mut period = None;
+    let mut left = 1;
+    for p in 0..=entries {
+        if p > 0 && left == 1 && period.is_none() {
+            period = Some(p as u64);
+        }
+        if first[left as usize] == 65535 {
+            first[left as usize] = p as u16;
+        }
+        left = times_x(left, generator);
+    }
+    Tables { step, first, period: period.expect("an odd generator has a period") }
+}
+
+pub fn tables(generator: u64, step: &mut [u16], first: &mut [u16]) -> Answer<u64> {
+    let n = generator_fits(generator)?;
+    table_lengths_fit(step, first, n)?;
+    let right = tables_of(generator);
+    step.copy_from_slice(&right.step);
+    first.copy_from_slice(&right.first);
+    Ok(right.period)
+}
+
+// ---- the list and its pages
+
+/// Every way to choose `count` positions from `from..length`, lowest first.
+fn combinations(from: u16, length: u16, count: usize, chosen: &mut Pattern, visit: &mut dyn FnMut(&[u16])) {
+    if count == 0 {
+        visit(chosen);
+        return;
+    }
+    for position in from..length {
+        chosen.push(position);
+        combinations(position + 1, length, count - 1, chosen, visit);
+        chosen.pop();
+    }
+}
+
+/// Every pattern of at most `limit` positions with this syndrome, in the list's order. The last list is kept.
+pub fn list(generator: u64, length: usize, limit: usize, syndrome: u64) -> Rc<Vec<Pattern>> {
+    type Key = (u64, usize, usize, u64);
+    thread_local! {
+        static LAST: RefCell<Option<(Key, Rc<Vec<Pattern>>)>> = const { RefCell::new(None) };
+    }
+    let key = (generator, length, limit, syndrome);
+    let kept = LAST.with_borrow(|last| last.clone().filter(|(of, _)| *of == key));
+    if let Some((_, list)) = kept {
+        return list;
+    }
+    // what each power of x leaves: the next is the one before times x
+    let powers: Vec<u64> =
+        std::iter::successors(Some(1), |&left| Some(times_x(left, generator))).take(length).collect();
+    let mut found = Vec::new();
+    for count in 0..=limit {
+        combinations(0, length as u16, count, &mut Vec::new(), &mut |pattern| {
+            if pattern.iter().fold(0, |s, &p| s ^ powers[usize::from(p)]) == syndrome {
+                found.push(pattern.to_vec());
+            }
+        });
+    }
+    let found = Rc::new(found);
+    LAST.set(Some((key, found.clone())));
+    found
+}
+
+/// Whether the pattern stands behind the mark in the order: fewer positions first, then by the positions from the
+/// smallest on.
+fn follows(pattern: &Pattern, mark: &Mark) -> bool {
+    match mark {
+        Mark::Start => true,
+        Mark::Ended => false,
+        Mark::After(last) => (pattern.len(), pattern) > (last.len(), last),
+    }
+}
+
+pub fn record(pattern: &[u16]) -> Vec<u8> {
+    let mut record = vec![pattern.len() as u8];
+    for &position in pattern {
+        record.push((position / 256) as u8);
+        record.push((position % 256) as u8);
+    }
+    record
+}
+
+/// What a page call is given, apart from the output.
+#[derive(Clone, Debug)]
+pub struct PageOf<'a> {
+    pub generator: u64,
+    pub length: usize,
+    pub limit: usize,
+    pub syndrome: u64,
+    pub step: &'a [u16],
+    pub first: &'a [u16],
+    pub mark: &'a Mark,
+}
+
+/// The bytes used, the records written, the next mark.
+pub fn page(of: &PageOf<'_>, output: &mut [u8]) -> Answer<(usize, u64, Mark)> {
+    let n = generator_fits(of.generator)?;
+    length_fits(of.length as u128, n)?;
+    limit_fits(of.limit)?;
+    syndrome_fits(of.syndrome, n)?;
+    table_lengths_fit(of.step, of.first, n)?;
+    table_entries_right(of.step, of.first, of.generator)?;
+    mark_fits(of.mark, of.length, of.limit)?;
+    if output.len() < 9 {
+        return Err(8);
+    }
+    let list = list(of.generator, of.length, of.limit, of.syndrome);
+    let (mut used, mut written, mut reached) = (0, 0, of.mark.clone());
+    for pattern in list.iter().filter(|pattern| follows(pattern, of.mark)) {
+        let record = record(pattern);
+        if used + record.len() > output.len() {
+            return Ok((used, written, reached));
+        }
+        output[used..used + record.len()].copy_from_slice(&record);
+        used += record.len();
+        written += 1;
+        reached = Mark::After(pattern.clone());
+    }
+    Ok((used, written, Mark::Ended))
+}
+
+// ---- the verdict
+
+/// What a repair is given, apart from the output.
+#[derive(Clone, Debug)]
+pub struct RepairOf<'a> {
+    pub generator: u64,
+    pub start: usize,
+    pub end: usize,
+    pub limit: usize,
+    pub step: &'a [u16],
+    pub first: &'a [u16],
+    pub packet: &'a [u8],
+}
+
+pub fn repair(of: &RepairOf<'_>, output: &mut [u8]) -> Answer<Verdict> {
+    let n = generator_fits(of.generator)?;
+    length_fits(packet_length(of.packet), n)?;
+    limit_fits(of.limit)?;
+    table_lengths_fit(of.step, of.first, n)?;
+    table_entries_right(of.step, of.first, of.generator)?;
+    if output.len() != of.packet.len() {
+        return Err(8);
+    }
+    range_fits(of.start, of.end, packet_length(of.packet), n)?;
+
+    let range_passes = |packet: &[u8]| sum(&packet[of.start..of.end]) == 0xFFFF;
+    let syndrome = divide(bits(of.packet), of.generator);
+    if syndrome == 0 && range_passes(of.packet) {
+        return Ok(Verdict::Intact);
+    }
+    let mut passing: Vec<Pattern> = list(of.generator, 8 * of.packet.len(), of.limit, syndrome)
+        .iter()
+        .filter(|pattern| range_passes(&flipped(of.packet, pattern)))
+        .cloned()
+        .collect();
+    Ok(match passing.len() {
+        0 => Verdict::None,
+        1 => {
+            let pattern = passing.remove(0);
+            output.copy_from_slice(&flipped(of.packet, &pattern));
+            Verdict::Repaired(pattern)
+        }
+        _ => Verdict::Several(passing),
+    })
+}

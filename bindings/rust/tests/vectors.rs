@@ -1,0 +1,311 @@
+//! Values worked by hand or published elsewhere: the rows of the rules' own table, the traps that they name, and the check
+//! values of the catalogue of parametrised CRC algorithms.
+
+use rangqoda::{
+    hand_back, page, remainder, repair, seal, stamp, sum, Mark, Pattern, Refusal, TableSlices, Tables, Verdict, CCITT,
+    FIVE, NO_POSITION,
+};
+
+/// The list, as slices of positions.
+fn list(generator: u64, length: usize, limit: usize, syndrome: u64) -> Vec<Vec<u16>> {
+    let tables = Tables::new(generator).unwrap();
+    let patterns = tables.patterns(length, limit, syndrome).unwrap();
+    patterns.map(|pattern| pattern.as_slice().to_vec()).collect()
+}
+
+fn pattern(positions: &[u16]) -> Pattern {
+    Pattern::new(positions).unwrap()
+}
+
+/// A packet from the digits of its bits. Zero bits put before them change no remainder.
+fn bits(digits: &str) -> Vec<u8> {
+    let number = u64::from_str_radix(digits, 2).unwrap();
+    number.to_be_bytes()[8 - digits.len().div_ceil(8)..].to_vec()
+}
+
+// ---- the rules' table
+
+#[test]
+fn remainders_of_three_bit_generators() {
+    assert_eq!(remainder(9, &bits("101110000")), Ok(3));
+    assert_eq!(remainder(11, &bits("1100010")), Ok(0));
+    assert_eq!(remainder(11, &bits("1101010")), Ok(3));
+}
+
+#[test]
+fn a_single_error_of_five_bits() {
+    assert_eq!(list(11, 5, 1, 6), [[4]]);
+}
+
+#[test]
+fn tables_of_five() {
+    let tables = Tables::new(FIVE).unwrap();
+    let TableSlices { step, first } = tables.as_slices();
+    assert_eq!((step.len(), first.len()), (32, 32));
+    assert_eq!(tables.period(), 15);
+    assert_eq!(step[1], 26);
+    assert_eq!(first[26], 14);
+    assert_eq!(first[3], NO_POSITION);
+    assert_eq!(first[0], NO_POSITION);
+    // all single error positions, as the paper on lookup tables prints them (-1 for none)
+    let printed = [
+        -1, 0, 1, -1, 2, -1, -1, 10, 3, -1, -1, 7, -1, 13, 11, -1, 4, -1, -1, -1, -1, 5, 8, -1, -1, 9, 14, -1, 12, -1,
+        -1, 6,
+    ];
+    let read: Vec<i32> = first.iter().map(|&p| if p == NO_POSITION { -1 } else { i32::from(p) }).collect();
+    assert_eq!(read, printed);
+}
+
+#[test]
+fn lists_of_five() {
+    assert_eq!(list(FIVE, 15, 2, 1), [[0]]);
+    assert_eq!(list(FIVE, 16, 2, 1), [[0], [15]]);
+    assert_eq!(list(FIVE, 7, 2, 3), [[0, 1]]);
+    assert_eq!(list(FIVE, 8, 2, 3), [[0, 1], [3, 7]]);
+    assert_eq!(list(FIVE, 15, 2, 0), [vec![]]);
+    assert_eq!(list(FIVE, 16, 2, 0), [vec![], vec![0, 15]]);
+    assert_eq!(list(FIVE, 9, 2, 30), [[0, 6], [3, 8], [5, 7]]);
+}
+
+#[test]
+fn a_list_after_a_mark_that_is_not_listed() {
+    let tables = Tables::new(FIVE).unwrap();
+    let mut output = [0xAA; 20];
+    let found = tables.page(9, 2, 30, Mark::After(pattern(&[1, 2])), &mut output).unwrap();
+    assert_eq!(found.patterns(&output).collect::<Vec<_>>(), [pattern(&[3, 8]), pattern(&[5, 7])]);
+    assert_eq!((found.used, found.written, found.next), (10, 2, Mark::Ended));
+    assert_eq!(output[..10], [2, 0, 3, 0, 8, 2, 0, 5, 0, 7]);
+    assert_eq!(output[10..], [0xAA; 10]);
+}
+
+#[test]
+fn the_sum_of_rfc_1071() {
+    assert_eq!(sum(&[0x00, 0x01, 0xF2, 0x03, 0xF4, 0xF5, 0xF6, 0xF7]), 0xDDF2);
+    assert_eq!(sum(&[]), 0);
+    assert_eq!(sum(&[0x12]), 0x1200);
+    assert_eq!(sum(&[0xFF, 0xFF, 0x00, 0x01]), 1);
+    assert_eq!(sum(&[0xFF; 8]), 0xFFFF);
+}
+
+#[test]
+fn verdicts_of_five() {
+    let tables = Tables::new(FIVE).unwrap();
+    let mut output = [0xAA; 3];
+    assert_eq!(tables.repair(0..2, 1, &[0xFF, 0xFF, 0x05], &mut output), Ok(Verdict::Intact));
+    assert_eq!(output, [0xAA; 3]);
+
+    assert_eq!(remainder(FIVE, &[0xFF, 0xFF, 0x06]), Ok(3));
+    assert_eq!(tables.repair(0..2, 1, &[0xFF, 0xFF, 0x06], &mut output), Ok(Verdict::None));
+    let several = tables.repair(0..2, 2, &[0xFF, 0xFF, 0x06], &mut output).unwrap();
+    assert!(matches!(several, Verdict::Several { count: 2, pattern } if pattern.len() == 2), "{several:?}");
+    assert_eq!(output, [0xAA; 3]);
+
+    let s = remainder(FIVE, &[0x7F, 0xFF, 0x05]).unwrap();
+    assert_eq!(list(FIVE, 24, 1, s), [[8], [23]]);
+    let repaired = tables.repair(0..2, 1, &[0x7F, 0xFF, 0x05], &mut output).unwrap();
+    assert_eq!(repaired, Verdict::Repaired(pattern(&[23])));
+    assert_eq!(output, [0xFF, 0xFF, 0x05]);
+}
+
+#[test]
+fn what_is_handed_back() {
+    let (received, copy) = ([1, 2, 3], [4, 5, 6]);
+    assert!(std::ptr::eq(hand_back(&received, &copy, &Verdict::Intact), &received[..]));
+    assert!(std::ptr::eq(hand_back(&received, &copy, &Verdict::Repaired(pattern(&[0]))), &copy[..]));
+    for verdict in [Verdict::None, Verdict::Several { count: 2, pattern: pattern(&[0, 1]) }] {
+        let handed = hand_back(&received, &copy, &verdict);
+        assert!(handed.is_empty() && received.as_ptr_range().contains(&handed.as_ptr()));
+    }
+}
+
+#[test]
+fn the_small_inputs_of_the_refusals() {
+    let tables = Tables::new(FIVE).unwrap();
+    let mut output = [0; 16];
+    for generator in [8, 7, 131073] {
+        assert_eq!(remainder(generator, &[0; 8]), Err(Refusal::Generator));
+    }
+    assert_eq!(tables.page(5, 1, 0, Mark::Start, &mut output), Err(Refusal::Length));
+    assert_eq!(tables.page(8, 5, 0, Mark::Start, &mut output), Err(Refusal::Limit));
+    assert_eq!(tables.page(8, 1, 32, Mark::Start, &mut output), Err(Refusal::Syndrome));
+    assert_eq!(rangqoda::build_tables(FIVE, &mut [0; 31], &mut [0; 32]), Err(Refusal::TableLength));
+    let TableSlices { step, first } = tables.as_slices();
+    let mut wrong = step.to_vec();
+    wrong[1] = 0;
+    let lent = TableSlices { step: &wrong, first };
+    assert_eq!(page(FIVE, 8, 1, 0, lent, Mark::Start, &mut output), Err(Refusal::TableEntry));
+    assert_eq!(repair(FIVE, 0..2, 1, lent, &[0; 3], &mut output[..3]), Err(Refusal::TableEntry));
+    assert_eq!(tables.page(8, 2, 0, Mark::After(pattern(&[3, 3])), &mut output), Err(Refusal::Mark));
+    assert_eq!(tables.page(8, 2, 0, Mark::Start, &mut output[..8]), Err(Refusal::Output));
+    assert_eq!(stamp(CCITT, 0..3, 0, &mut [0; 4]), Err(Refusal::Range));
+    assert_eq!(stamp(CCITT, 0..4, 1, &mut [0; 8]), Err(Refusal::Field));
+}
+
+// ---- the traps
+
+#[test]
+fn positions_a_period_later_are_not_lost() {
+    assert_eq!(list(FIVE, 50, 1, 1), [[0], [15], [30], [45]]);
+    assert!(list(FIVE, 16, 2, 1).contains(&vec![15]));
+    assert!(list(FIVE, 24, 1, remainder(FIVE, &[0x7F, 0xFF, 0x05]).unwrap()).contains(&vec![23]));
+}
+
+#[test]
+fn positions_are_counted_from_the_right() {
+    // in five bits with one error the syndrome 6 is the leftmost bit's, position 4
+    assert_eq!(remainder(11, &[0b10000]), Ok(6));
+    assert_eq!(list(11, 5, 1, 6), [[4]]);
+    assert_eq!(remainder(FIVE, &[0, 0, 1]), Ok(1));
+    assert_eq!(list(FIVE, 15, 1, 1), [[0]]);
+}
+
+#[test]
+fn no_pair_comes_twice_and_none_has_a_position_twice() {
+    for (generator, length, limit) in [(FIVE, 40, 2), (FIVE, 33, 3), (9, 20, 4), (CCITT, 400, 2)] {
+        for syndrome in 0..8 {
+            let found = list(generator, length, limit, syndrome);
+            assert!(found.iter().all(|pattern| pattern.windows(2).all(|pair| pair[0] < pair[1])));
+            assert!(found.windows(2).all(|two| (two[0].len(), &two[0]) < (two[1].len(), &two[1])));
+        }
+    }
+}
+
+#[test]
+fn parity_is_not_taken_for_granted() {
+    // 11 has three ones: one list holds patterns of one and of two positions
+    assert_eq!(list(11, 7, 2, 6), [vec![4], vec![0, 5], vec![1, 2], vec![3, 6]]);
+}
+
+#[test]
+fn remainder_0_has_more_than_the_empty_pattern() {
+    let found = list(FIVE, 20, 4, 0);
+    assert_eq!(found[0], []);
+    assert!(found.contains(&vec![0, 15]) && found.contains(&vec![0, 2, 4, 5]));
+    // a packet of remainder 0 whose checksum fails is repaired
+    let tables = Tables::new(FIVE).unwrap();
+    let mut sent = [0xFF, 0xFF, 0x05];
+    for position in [8, 23] {
+        sent[2 - position / 8] ^= 1 << (position % 8);
+    }
+    assert_eq!(remainder(FIVE, &sent), Ok(0));
+    let mut output = [0; 3];
+    let verdict = tables.repair(0..2, 2, &sent, &mut output).unwrap();
+    assert_eq!((verdict, output), (Verdict::Repaired(pattern(&[8, 23])), [0xFF, 0xFF, 0x05]));
+}
+
+// ---- published check values
+
+/// The catalogue's algorithms to degree 16: name, width, polynomial without the top bit, initial value, input reflected,
+/// output reflected, final value, and the CRC of the nine bytes "123456789".
+type Published = (&'static str, u32, u64, u64, bool, bool, u64, u64);
+
+#[rustfmt::skip]
+const CATALOGUE: [Published; 78] = [
+    ("CRC-3/GSM", 3, 0x3, 0x0, false, false, 0x7, 0x4),
+    ("CRC-3/ROHC", 3, 0x3, 0x7, true, true, 0x0, 0x6),
+    ("CRC-4/G-704", 4, 0x3, 0x0, true, true, 0x0, 0x7),
+    ("CRC-4/INTERLAKEN", 4, 0x3, 0xF, false, false, 0xF, 0xB),
+    ("CRC-5/EPC-C1G2", 5, 0x9, 0x9, false, false, 0x0, 0x0),
+    ("CRC-5/G-704", 5, 0x15, 0x0, true, true, 0x0, 0x7),
+    ("CRC-5/USB", 5, 0x5, 0x1F, true, true, 0x1F, 0x19),
+    ("CRC-6/CDMA2000-A", 6, 0x27, 0x3F, false, false, 0x0, 0xD),
+    ("CRC-6/CDMA2000-B", 6, 0x7, 0x3F, false, false, 0x0, 0x3B),
+    ("CRC-6/DARC", 6, 0x19, 0x0, true, true, 0x0, 0x26),
+    ("CRC-6/G-704", 6, 0x3, 0x0, true, true, 0x0, 0x6),
+    ("CRC-6/GSM", 6, 0x2F, 0x0, false, false, 0x3F, 0x13),
+    ("CRC-7/MMC", 7, 0x9, 0x0, false, false, 0x0, 0x75),
+    ("CRC-7/ROHC", 7, 0x4F, 0x7F, true, true, 0x0, 0x53),
+    ("CRC-7/UMTS", 7, 0x45, 0x0, false, false, 0x0, 0x61),
+    ("CRC-8/AUTOSAR", 8, 0x2F, 0xFF, false, false, 0xFF, 0xDF),
+    ("CRC-8/BLUETOOTH", 8, 0xA7, 0x0, true, true, 0x0, 0x26),
+    ("CRC-8/CDMA2000", 8, 0x9B, 0xFF, false, false, 0x0, 0xDA),
+    ("CRC-8/DARC", 8, 0x39, 0x0, true, true, 0x0, 0x15),
+    ("CRC-8/DVB-S2", 8, 0xD5, 0x0, false, false, 0x0, 0xBC),
+    ("CRC-8/GSM-A", 8, 0x1D, 0x0, false, false, 0x0, 0x37),
+    ("CRC-8/GSM-B", 8, 0x49, 0x0, false, false, 0xFF, 0x94),
+    ("CRC-8/I-432-1", 8, 0x7, 0x0, false, false, 0x55, 0xA1),
+    ("CRC-8/I-CODE", 8, 0x1D, 0xFD, false, false, 0x0, 0x7E),
+    ("CRC-8/LTE", 8, 0x9B, 0x0, false, false, 0x0, 0xEA),
+    ("CRC-8/MAXIM-DOW", 8, 0x31, 0x0, true, true, 0x0, 0xA1),
+    ("CRC-8/MIFARE-MAD", 8, 0x1D, 0xC7, false, false, 0x0, 0x99),
+    ("CRC-8/NRSC-5", 8, 0x31, 0xFF, false, false, 0x0, 0xF7),
+    ("CRC-8/OPENSAFETY", 8, 0x2F, 0x0, false, false, 0x0, 0x3E),
+    ("CRC-8/ROHC", 8, 0x7, 0xFF, true, true, 0x0, 0xD0),
+    ("CRC-8/SAE-J1850", 8, 0x1D, 0xFF, false, false, 0xFF, 0x4B),
+    ("CRC-8/SMBUS", 8, 0x7, 0x0, false, false, 0x0, 0xF4),
+    ("CRC-8/TECH-3250", 8, 0x1D, 0xFF, true, true, 0x0, 0x97),
+    ("CRC-8/WCDMA", 8, 0x9B, 0x0, true, true, 0x0, 0x25),
+    ("CRC-10/ATM", 10, 0x233, 0x0, false, false, 0x0, 0x199),
+    ("CRC-10/CDMA2000", 10, 0x3D9, 0x3FF, false, false, 0x0, 0x233),
+    ("CRC-10/GSM", 10, 0x175, 0x0, false, false, 0x3FF, 0x12A),
+    ("CRC-11/FLEXRAY", 11, 0x385, 0x1A, false, false, 0x0, 0x5A3),
+    ("CRC-11/UMTS", 11, 0x307, 0x0, false, false, 0x0, 0x61),
+    ("CRC-12/CDMA2000", 12, 0xF13, 0xFFF, false, false, 0x0, 0xD4D),
+    ("CRC-12/DECT", 12, 0x80F, 0x0, false, false, 0x0, 0xF5B),
+    ("CRC-12/GSM", 12, 0xD31, 0x0, false, false, 0xFFF, 0xB34),
+    ("CRC-12/UMTS", 12, 0x80F, 0x0, false, true, 0x0, 0xDAF),
+    ("CRC-13/BBC", 13, 0x1CF5, 0x0, false, false, 0x0, 0x4FA),
+    ("CRC-14/DARC", 14, 0x805, 0x0, true, true, 0x0, 0x82D),
+    ("CRC-14/GSM", 14, 0x202D, 0x0, false, false, 0x3FFF, 0x30AE),
+    ("CRC-15/CAN", 15, 0x4599, 0x0, false, false, 0x0, 0x59E),
+    ("CRC-15/MPT1327", 15, 0x6815, 0x0, false, false, 0x1, 0x2566),
+    ("CRC-16/ARC", 16, 0x8005, 0x0, true, true, 0x0, 0xBB3D),
+    ("CRC-16/CDMA2000", 16, 0xC867, 0xFFFF, false, false, 0x0, 0x4C06),
+    ("CRC-16/CMS", 16, 0x8005, 0xFFFF, false, false, 0x0, 0xAEE7),
+    ("CRC-16/DDS-110", 16, 0x8005, 0x800D, false, false, 0x0, 0x9ECF),
+    ("CRC-16/DECT-R", 16, 0x589, 0x0, false, false, 0x1, 0x7E),
+    ("CRC-16/DECT-X", 16, 0x589, 0x0, false, false, 0x0, 0x7F),
+    ("CRC-16/DNP", 16, 0x3D65, 0x0, true, true, 0xFFFF, 0xEA82),
+    ("CRC-16/EN-13757", 16, 0x3D65, 0x0, false, false, 0xFFFF, 0xC2B7),
+    ("CRC-16/GENIBUS", 16, 0x1021, 0xFFFF, false, false, 0xFFFF, 0xD64E),
+    ("CRC-16/GSM", 16, 0x1021, 0x0, false, false, 0xFFFF, 0xCE3C),
+    ("CRC-16/IBM-3740", 16, 0x1021, 0xFFFF, false, false, 0x0, 0x29B1),
+    ("CRC-16/IBM-SDLC", 16, 0x1021, 0xFFFF, true, true, 0xFFFF, 0x906E),
+    ("CRC-16/ISO-IEC-14443-3-A", 16, 0x1021, 0xC6C6, true, true, 0x0, 0xBF05),
+    ("CRC-16/KERMIT", 16, 0x1021, 0x0, true, true, 0x0, 0x2189),
+    ("CRC-16/LJ1200", 16, 0x6F63, 0x0, false, false, 0x0, 0xBDF4),
+    ("CRC-16/MAXIM-DOW", 16, 0x8005, 0x0, true, true, 0xFFFF, 0x44C2),
+    ("CRC-16/MCRF4XX", 16, 0x1021, 0xFFFF, true, true, 0x0, 0x6F91),
+    ("CRC-16/MODBUS", 16, 0x8005, 0xFFFF, true, true, 0x0, 0x4B37),
+    ("CRC-16/NRSC-5", 16, 0x80B, 0xFFFF, true, true, 0x0, 0xA066),
+    ("CRC-16/OPENSAFETY-A", 16, 0x5935, 0x0, false, false, 0x0, 0x5D38),
+    ("CRC-16/OPENSAFETY-B", 16, 0x755B, 0x0, false, false, 0x0, 0x20FE),
+    ("CRC-16/PROFIBUS", 16, 0x1DCF, 0xFFFF, false, false, 0xFFFF, 0xA819),
+    ("CRC-16/RIELLO", 16, 0x1021, 0xB2AA, true, true, 0x0, 0x63D0),
+    ("CRC-16/SPI-FUJITSU", 16, 0x1021, 0x1D0F, false, false, 0x0, 0xE5CC),
+    ("CRC-16/T10-DIF", 16, 0x8BB7, 0x0, false, false, 0x0, 0xD0DB),
+    ("CRC-16/TELEDISK", 16, 0xA097, 0x0, false, false, 0x0, 0xFB3),
+    ("CRC-16/TMS37157", 16, 0x1021, 0x89EC, true, true, 0x0, 0x26B1),
+    ("CRC-16/UMTS", 16, 0x8005, 0x0, false, false, 0x0, 0xFEE8),
+    ("CRC-16/USB", 16, 0x8005, 0xFFFF, true, true, 0xFFFF, 0xB4C8),
+    ("CRC-16/XMODEM", 16, 0x1021, 0x0, false, false, 0x0, 0x31C3),
+];
+
+/// A CRC by the remainder: the message, with the initial value XORed into its first bits, then as many zeros as the
+/// degree. The zeros put before it, so that the packet is whole bytes, change nothing.
+fn crc(width: u32, poly: u64, init: u64, refin: bool, refout: bool, xorout: u64) -> u64 {
+    let mut message = 0u128;
+    for &byte in b"123456789" {
+        message = message << 8 | u128::from(if refin { byte.reverse_bits() } else { byte });
+    }
+    message ^= u128::from(init) << (72 - width);
+    let packet = (message << width).to_be_bytes();
+    let left = remainder(1 << width | poly, &packet).unwrap();
+    let left = if refout { left.reverse_bits() >> (64 - width) } else { left };
+    left ^ xorout
+}
+
+#[test]
+fn published_check_values() {
+    for (name, width, poly, init, refin, refout, xorout, check) in CATALOGUE {
+        assert_eq!(crc(width, poly, init, refin, refout, xorout), check, "{name}");
+    }
+}
+
+#[test]
+fn sealing_appends_a_published_check_value() {
+    let mut packet = *b"123456789\0\0";
+    seal(CCITT, &mut packet).unwrap();
+    assert_eq!(packet[9..], [0x31, 0xC3]);
+    assert_eq!(remainder(CCITT, &packet), Ok(0));
+}
