@@ -1,5 +1,5 @@
 -- Conditions 1 and 2 in the order of their tests: what the constructor's answer and the length say of them.
-use mathlib.Core.Path.{_≡_, sym, ap, _∙_}
+use mathlib.Core.Path.{_≡_, sym, ap, subst, _∙_}
 use mathlib.Core.Bool.{true, false}
 use mathlib.Core.List.{List, [], _∷_}
 use Prim.Native.Nat.{ℕ, _+_, _*_, _<_, _≤_}
@@ -9,13 +9,13 @@ use Rattle.base.specs.Outcome.{Outcome, refused, accepted, Condition, when, jud
 use Rattle.base.specs.Refusals.{number}
 use Rattle.base.specs.declared.Refusal.{Refusal}
 use Rattle.base.proofs.JudgeLaws.{first-of, rest-of}
-use Rattle.poly.specs.Polynomial.{degree}
+use Rattle.poly.specs.Polynomial.{degree, rem}
 use Rattle.poly.specs.Generators.{unfit, construction, constructed, generatorOf, Divisor}
 use Rattle.poly.specs.declared.Generator.{Generator}
 use Rattle.poly.specs.declared.Construction.{Construction}
 use Rattle.poly.specs.declared.Construction.the-variants.{Made, Refused}
 use Rattle.poly.proofs.GeneratorLaws.{refused-by, made-by, made-value, made-clear, fit-accepted, Accepted}
-use Rattle.packet.specs.Packet.{unfitLength}
+use Rattle.packet.specs.Packet.{unfitLength, polynomial, remainder}
 use Rattle.packet.specs.Calls.{packetConditions, admitted}
 use Rattle.packet.proofs.PacketLaws.{long-unfit, short-unfit, length-fit, fit-length}
 
@@ -55,6 +55,16 @@ pub record Admitted (g l : ℕ) (v : Generator) : Type 0 where
   pub made : generatorOf g ≡ v
   pub longer : degree g < l
   pub shorter : l ≤ 4096
+
+module _ {g l : ℕ} {v : Generator} (a : Admitted g l v) where
+  -- what division asks of the generator made
+  pub admitted-divisor : Divisor (v .degree) (v .bits) × (v .degree ≤ 16)
+  admitted-divisor = subst (λ (w : Generator). Divisor (w .degree) (w .bits) × (w .degree ≤ 16)) (a .made) (a .generator .divisor, a .generator .most)
+
+  -- division by the generator made is division by the number given
+  pub admitted-remainder : (s : List ℕ) → rem (v .degree) (v .bits) (polynomial s) ≡ remainder g s
+  unfolding remainder
+  admitted-remainder s = sym (ap (λ (w : Generator). rem (w .degree) (w .bits) (polynomial s)) (a .made))
 
 module _ (g l : ℕ) {r : Construction} (e : construction r ≡ admitted g l) where
   pub admitted-refused : {R : Type 0} {q : Refusal} → r ≡ Refused q → (turned : ℕ → R) (done : R) → judge (packetConditions g l) turned done ≡ turned (number q)

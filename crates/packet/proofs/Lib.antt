@@ -1,2 +1,5 @@
 pub mod PacketLaws
 pub mod AdmitLaws
+pub mod StepLaws
+pub mod FlipLaws
+pub mod SealLaws

@@ -2,10 +2,10 @@
 use mathlib.Core.Path.{_≡_, refl, sym, ap, ap₂, _∙_, subst}
 use Prim.Native.Nat.{ℕ, zero, suc, _+_, _-_, _*_, _/_, _%_, _^_, _<_, _≤_}
 use native.Mathlib.Omega.{arith}
-use native.Mathlib.Nat.{zero-mul, one-mul, zero-add, add-zero, div-eq-of-lt, div-eq-of-lt-le, div-lt-iff-lt-mul}
+use native.Mathlib.Nat.{zero-mul, one-mul, mul-assoc, pow-suc, zero-add, add-zero, div-eq-of-lt, div-eq-of-lt-le, div-lt-iff-lt-mul}
 use lib.Arith.{bin-ind}
 use lib.Pow.{pow-pos}
-use lib.Bits.{bitXor, differ, xor-step, xor-zero-l, xor-zero-r, xor-self, xor-comm, xor-shr, xor-block, xor-lt}
+use lib.Bits.{bitXor, differ, xor-step, xor-zero-l, xor-zero-r, xor-self, xor-comm, xor-shr, xor-block, xor-shifted, xor-lt}
 use Rattle.base.proofs.Cases.{by-order}
 use Rattle.base.proofs.XorLaws.{xor-assoc, xor-left-comm, xor-cancel, xor-half, xor-low, xor-ac}
 use Rattle.poly.specs.Polynomial.{times, down, rem, reduce}
@@ -68,6 +68,9 @@ rem-small n g =
     ∙ ap (λ (x : ℕ). reduce n g (x * 2 + a % 2)) (ih (omega arith))
     ∙ ap (reduce n g) (omega arith)
     ∙ reduce-low n g a h)
+
+shift-suc : (a k : ℕ) → a * 2 ^ suc k ≡ a * 2 ^ k * 2
+shift-suc a k = ap (λ (x : ℕ). a * x) (pow-suc 2 k) ∙ sym (mul-assoc a (2 ^ k) 2)
 
 -- the divisor has degree n
 module _ (n g : ℕ) (low : 2 ^ n ≤ g) (high : g < 2 ^ suc n) where
@@ -162,3 +165,30 @@ module _ (n g : ℕ) (low : 2 ^ n ≤ g) (high : g < 2 ^ suc n) where
   pub remainder-unique : (a q r : ℕ) → a ≡ bitXor (times q g) r → r < 2 ^ n → r ≡ rem n g a
   remainder-unique a q r e h =
       sym (ap (rem n g) e ∙ rem-xor (times q g) r ∙ ap₂ bitXor (rem-times q) (rem-small n g r h) ∙ xor-zero-l r)
+
+  -- multiplying by x^k
+  pub rem-shift : (k a : ℕ) → rem n g (a * 2 ^ k) ≡ rem n g (rem n g a * 2 ^ k)
+  rem-shift zero a =
+      let e : a * 2 ^ 0 ≡ a = omega arith in
+      let f : rem n g a * 2 ^ 0 ≡ rem n g a = omega arith in
+      ap (rem n g) e ∙ sym (ap (rem n g) f ∙ rem-small n g (rem n g a) (rem-lt a))
+  rem-shift (suc k) a =
+      let e : a * 2 ^ suc k ≡ a * 2 ^ k * 2 = shift-suc a k in
+      let f : rem n g a * 2 ^ suc k ≡ rem n g a * 2 ^ k * 2 = shift-suc (rem n g a) k in
+      ap (rem n g) e
+      ∙ rem-double (a * 2 ^ k)
+      ∙ ap (λ (x : ℕ). reduce n g (x * 2)) (rem-shift k a)
+      ∙ sym (ap (rem n g) f ∙ rem-double (rem n g a * 2 ^ k))
+
+  -- a multiple of the divisor stays one
+  pub rem-shift-zero : (k a : ℕ) → rem n g a ≡ 0 → rem n g (a * 2 ^ k) ≡ 0
+  rem-shift-zero k a e = rem-shift k a ∙ ap (λ (x : ℕ). rem n g (x * 2 ^ k)) e ∙ ap (rem n g) (zero-mul (2 ^ k)) ∙ rem-zero n g
+
+  -- the remainder stands for what was read so far
+  pub rem-block : (k a b : ℕ) → b < 2 ^ k → rem n g (rem n g a * 2 ^ k + b) ≡ rem n g (a * 2 ^ k + b)
+  rem-block k a b h =
+      ap (rem n g) (sym (xor-shifted (rem n g a) k b h))
+      ∙ rem-xor (rem n g a * 2 ^ k) b
+      ∙ ap (λ (x : ℕ). bitXor x (rem n g b)) (sym (rem-shift k a))
+      ∙ sym (rem-xor (a * 2 ^ k) b)
+      ∙ ap (rem n g) (xor-shifted a k b h)
