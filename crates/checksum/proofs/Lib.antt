@@ -1,6 +1,6 @@
 pub mod SumLaws
 pub mod RangeLaws
-pub mod FlipLaws
+pub mod WeightLaws
 pub mod ConditionLaws
 pub mod StampLaws
 pub mod CallLaws
