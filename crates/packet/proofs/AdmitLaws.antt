@@ -49,6 +49,10 @@ module _ (g l : ℕ) {r : Construction} (e : construction r ≡ constructed g) w
       ap accepted (sym (made-value (when 1 (unfit g) ∷ []) g e h))
       ∙ sym (past-first h ∙ simp (length-fit (degree g) l (omega (arith, degree-made h)) m))
 
+-- past the limit all lengths are judged alike
+pub admitted-long : (g l m : ℕ) → 4096 < l → 4096 < m → admitted g l ≡ admitted g m
+admitted-long g l m h k = simp (long-unfit (degree g) l h, long-unfit (degree g) m k)
+
 -- what a call knows once both conditions are past
 pub record Admitted (g l : ℕ) (v : Generator) : Type 0 where
   pub generator : Accepted g

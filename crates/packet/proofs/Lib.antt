@@ -3,3 +3,4 @@ pub mod AdmitLaws
 pub mod StepLaws
 pub mod FlipLaws
 pub mod SealLaws
+pub mod DifferenceLaws

@@ -3,8 +3,9 @@ use Prim.Native.Nat.{ℕ, zero, suc, _+_, _-_, _*_, _/_, _%_, _^_, _<_}
 use mathlib.Core.Bool.{Bool, _||_}
 use mathlib.Core.List.{List, [], _∷_, _++_}
 use lib.Bits.{bitXor}
-use lib.Dec.{leb, ltb}
+use lib.Dec.{leb, ltb, eqb}
 use lib.ListN.{length, getD, set}
+use Rattle.base.specs.Outcome.{pick}
 use Rattle.poly.specs.Polynomial.{degree, rem}
 
 -- the elements are bytes
@@ -52,3 +53,13 @@ flip s p = set s (length s - 1 - p / 8) (bitXor (getD s (length s - 1 - p / 8) 0
 unfoldable pub flips : List ℕ → List ℕ → List ℕ
 flips s [] = s
 flips s (p ∷ ps) = flips (flip s p) ps
+
+-- the positions, among the `room` positions from `from` on, at which two packets differ
+unfoldable pub differing : List ℕ → List ℕ → ℕ → ℕ → List ℕ
+differing s t zero from = []
+differing s t (suc room) from =
+    pick (eqb (bitAt s from) (bitAt t from)) (differing s t room (suc from)) (from ∷ differing s t room (suc from))
+
+-- the positions at which two packets of one length differ
+unfoldable pub difference : List ℕ → List ℕ → List ℕ
+difference s t = differing s t (bits s) 0

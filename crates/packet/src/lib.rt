@@ -31,23 +31,33 @@ pub enum SealAnswer {
     Refused(Refusal),
 }
 
-// Conditions 1 and 2, for a packet of `len` bytes; else the generator with its degree.
-pub fn admit(generator: u64, len: usize) -> Construction
-    ensures { λ r. ⌜ construction r ≡ admitted generator (8 * len) ⌝ }
+// Conditions 1 and 2, for `bits` bits; else the generator with its degree.
+pub fn admit_bits(generator: u64, bits: usize) -> Construction
+    ensures { λ r. ⌜ construction r ≡ admitted generator bits ⌝ }
 {
     let made = Generator::new(generator);
     match made {
         Construction::Refused(r) => Construction::Refused(r),
         Construction::Made(g) => {
-            if 512 < len {
+            if 4096 < bits {
                 return Construction::Refused(Refusal::Length);
             }
-            if 8 * len <= g.degree as usize {
+            if bits <= g.degree as usize {
                 return Construction::Refused(Refusal::Length);
             }
             Construction::Made(g)
         }
     }
+}
+
+// The same for a packet of `len` bytes; any length past the limit is judged as the first past it.
+pub fn admit(generator: u64, len: usize) -> Construction
+    ensures { λ r. ⌜ construction r ≡ admitted generator (8 * len) ⌝ }
+{
+    if 512 < len {
+        return admit_bits(generator, 4097);
+    }
+    admit_bits(generator, 8 * len)
 }
 
 // Takes x^(n + j) out of v, where it is there: v less x^j times the generator.

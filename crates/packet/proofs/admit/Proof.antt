@@ -1,58 +1,29 @@
--- `admit` judges conditions 1 and 2: the constructor decides the first, two tests of the length the second.
+-- `admit` judges a packet of bytes as `admit_bits` judges its bits.
+use mathlib.Core.Path.{_∙_}
 use Prim.Native.Nat.{_*_}
 use native.Mathlib.Omega.{arith}
 use borrow.Author.Needs.{needs}
-use Rattle.packet.proofs.AdmitLaws.{admit-refused, admit-long, admit-short, admit-made}
+use Rattle.packet.proofs.AdmitLaws.{admitted-long}
 use Rattle.packet.proofs.admit.Statement.{statement}
 use Rattle.packet.proofs.admit.Tie as tie
 
-new-requires : tie.Need-new-requires
-new-requires c κs = search needs
-
-enum-known-made : tie.Need-enum-known-made
-enum-known-made c = search needs
-
-enum-known-made-2 : tie.Need-enum-known-made-2
-enum-known-made-2 c = search needs
+admit-bits-requires : tie.Need-admit-bits-requires
+admit-bits-requires c κs = search needs
 
 returns : tie.Need-returns
 returns c =
-    let s = c .before .before .before .before in
-    admit-long _ (8 * s .before .args .len) (s .new .ensures) (c .before .before .made2 .given .1) (omega arith)
+    let a = c .before .before .args in
+    c .admit-bits .ensures ∙ admitted-long (a .generator) 4097 (8 * a .len) (omega arith) (omega arith)
 
-mul-if2 : tie.Need-mul-if2
-mul-if2 c = search needs
+mul-admit-bits : tie.Need-mul-admit-bits
+mul-admit-bits c = search needs
 
-cast-if2 : tie.Need-cast-if2
-cast-if2 c = search needs
+admit-bits-requires-2 : tie.Need-admit-bits-requires-2
+admit-bits-requires-2 c κs = search needs
 
 returns-2 : tie.Need-returns-2
-returns-2 c =
-    let m = c .before .before .before .before in
-    let s = m .before .before in
-    admit-short _ (8 * s .before .args .len) (s .new .ensures) (m .made2 .given .1) (omega arith)
-
-returns-3 : tie.Need-returns-3
-returns-3 c =
-    let s = c .before .before .before in
-    admit-refused _ (8 * s .before .args .len) (s .new .ensures) (c .before .made .given .1)
-
-returns-4 : tie.Need-returns-4
-returns-4 c =
-    let m = c .before .before .before .before in
-    let s = m .before .before in
-    admit-made _ (8 * s .before .args .len) (s .new .ensures) (m .made2 .given .1) (omega arith) (omega arith)
+returns-2 c = search needs
 
 pub admit-spec : {M : Type 1} → statement M
 admit-spec =
-    tie.close
-    (tie.spec
-    new-requires
-    enum-known-made
-    enum-known-made-2
-    returns
-    mul-if2
-    cast-if2
-    returns-2
-    returns-3
-    returns-4)
+    tie.close (tie.spec admit-bits-requires returns mul-admit-bits admit-bits-requires-2 returns-2)
