@@ -1,5 +1,4 @@
 // Compares sum and stamp with vectors that were worked by other code (see stdout).
-use base::Refusal;
 use checksum::StampAnswer;
 use libc::STDOUT_FILENO;
 use packet::RemainderAnswer;
@@ -20,23 +19,8 @@ const PLACES: [usize; 12] = [
     18446744073709551615,
 ];
 
-fn number(r: Refusal) -> u64 {
-    match r {
-        Refusal::Generator => 1,
-        Refusal::Length => 2,
-        Refusal::Limit => 3,
-        Refusal::Syndrome => 4,
-        Refusal::TableLength => 5,
-        Refusal::TableEntry => 6,
-        Refusal::Mark => 7,
-        Refusal::Output => 8,
-        Refusal::Range => 9,
-        Refusal::Field => 10,
-    }
-}
-
 fn newline() {
-    io::write_all(STDOUT_FILENO, b"\n");
+    testkit::print(b"\n");
 }
 
 fn show_sum(s: &[u8]) {
@@ -73,7 +57,7 @@ fn show_answer(answer: StampAnswer) {
             io::print_hex(STDOUT_FILENO, 0, 1);
         }
         StampAnswer::Refused(r) => {
-            io::print_hex(STDOUT_FILENO, number(r), 1);
+            io::print_hex(STDOUT_FILENO, testkit::refusal_number(r), 1);
         }
     }
 }
@@ -81,7 +65,7 @@ fn show_answer(answer: StampAnswer) {
 // The answer and the bytes that the packet then holds.
 fn show_stamp(generator: u64, a: usize, e: usize, field: usize, packet: &mut [u8]) {
     show_answer(checksum::stamp(generator, a, e, field, packet));
-    io::write_all(STDOUT_FILENO, b" ");
+    testkit::print(b" ");
     show_bytes(packet);
     newline();
 }
@@ -92,9 +76,9 @@ fn show_place(generator: u64, a: usize, e: usize, field: usize) {
     let mut copy = packet;
     show_answer(checksum::stamp(generator, a, e, field, &mut copy));
     if !check::same(&packet, &copy) {
-        io::write_all(STDOUT_FILENO, b"[");
+        testkit::print(b"[");
         show_bytes(&copy);
-        io::write_all(STDOUT_FILENO, b"]");
+        testkit::print(b"]");
     }
 }
 
@@ -115,39 +99,20 @@ fn show_places(generator: u64) {
     }
 }
 
-// Bytes that look like no pattern, from a seed.
-fn fill(s: &mut [u8], seed: u32) {
-    let mut v = seed % 65521;
-    let mut i = 0;
-    while i < s.len() {
-        v = (v * 1103 + 12345) % 65521;
-        s[i] = (v / 256) as u8;
-        i += 1;
-    }
-}
-
-fn fill_with(s: &mut [u8], byte: u8) {
-    let mut i = 0;
-    while i < s.len() {
-        s[i] = byte;
-        i += 1;
-    }
-}
-
 // Stamped and then sealed: the remainder, and the sum of the range.
 fn show_both(generator: u64, a: usize, e: usize, field: usize, packet: &mut [u8]) {
     show_answer(checksum::stamp(generator, a, e, field, packet));
     packet::seal(generator, packet);
-    io::write_all(STDOUT_FILENO, b" ");
+    testkit::print(b" ");
     match packet::remainder(generator, packet) {
         RemainderAnswer::Remainder(r) => {
             io::print_hex(STDOUT_FILENO, r, 1);
         }
         RemainderAnswer::Refused(_) => {
-            io::write_all(STDOUT_FILENO, b"refused");
+            testkit::print(b"refused");
         }
     }
-    io::write_all(STDOUT_FILENO, b" ");
+    testkit::print(b" ");
     if e <= packet.len() {
         if a <= e {
             show_sum(&packet[a..e]);
@@ -161,16 +126,11 @@ fn show_sums() {
     show_beginnings(b"\x00\x00\x00\x00\x00");
     show_beginnings(b"\xff\xff\xff\xff\xff");
     show_beginnings(b"\xff\xfe\x00\x02\x80\x00\x7f\xff\x01");
-    let mut odd = [0u8; 1021];
-    show_sum(&odd);
-    fill_with(&mut odd, 255);
-    show_sum(&odd);
-    fill(&mut odd, 7);
-    show_sum(&odd);
-    let mut long = io::large_buffer();
-    fill_with(&mut long, 255);
-    show_sum(&long);
-    fill(&mut long, 8);
+    show_sum(&[0u8; 1021]);
+    show_sum(&[255u8; 1021]);
+    show_sum(&[255u8; 65536]);
+    let mut long = [0u8; 65535];
+    testkit::fill(&mut long, 8);
     show_sum(&long);
 }
 
@@ -192,11 +152,11 @@ fn show_first_refusals() {
 
 fn show_sealed() {
     let mut most = [0u8; 512];
-    fill(&mut most, 9);
+    testkit::fill(&mut most, 9);
     show_both(53, 0, 511, 508, &mut most);
     show_both(0x11021, 1, 510, 507, &mut most);
     let mut nine = [0u8; 9];
-    fill(&mut nine, 10);
+    testkit::fill(&mut nine, 10);
     show_both(0x11021, 3, 6, 3, &mut nine);
     show_both(9, 0, 8, 6, &mut nine);
     show_bytes(&nine);
