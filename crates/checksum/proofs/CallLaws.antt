@@ -1,11 +1,11 @@
 -- The conditions of stamp in the order of their tests: what each test's outcome makes of any judgement by them.
-use mathlib.Core.Path.{_≡_, refl, sym, ap, _∙_}
+use mathlib.Core.Path.{_≡_, sym, ap, _∙_}
 use mathlib.Core.Bool.{Bool, true, false}
 use mathlib.Core.List.{List, [], _∷_}
-use Prim.Native.Nat.{ℕ, _+_, _*_, _<_, _≤_}
+use Prim.Native.Nat.{ℕ, _+_, _≤_}
 use native.Mathlib.Omega.{arith}
 use lib.ListN.{length}
-use Rattle.base.specs.Outcome.{Outcome, refused, accepted, Condition, when, judge}
+use Rattle.base.specs.Outcome.{refused, accepted, when, judge}
 use Rattle.base.specs.Refusals.{number}
 use Rattle.base.specs.declared.Refusal.{Refusal}
 use Rattle.poly.specs.Polynomial.{degree}

@@ -4,3 +4,4 @@ pub mod WeightLaws
 pub mod ConditionLaws
 pub mod StampLaws
 pub mod CallLaws
+pub mod StampSealLaws

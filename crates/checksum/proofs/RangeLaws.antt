@@ -1,19 +1,18 @@
 -- How the total of a range changes with one byte of the packet: by what that byte counts there, which is nothing outside the range.
 -- The induction over the range takes two bytes, one word, at a time.
-use mathlib.Core.Path.{_≡_, refl, sym, ap, _∙_}
-use mathlib.Core.Bool.{Bool, true, false, _&&_}
+use mathlib.Core.Path.{_≡_, refl, ap, _∙_}
 use mathlib.Core.List.{List, [], _∷_}
-use Prim.Native.Nat.{ℕ, zero, suc, _+_, _-_, _*_, _/_, _%_, _<_, _≤_, min}
+use Prim.Native.Nat.{ℕ, zero, suc, _+_, _-_, _*_, _%_, _<_, _≤_}
 use native.Mathlib.Omega.{arith}
 use borrow.Author.Tests.{lt-ltb, le-ltb, le-leb, lt-leb, eq-eqb, ne-eqb}
-use lib.Dec.{eqb, leb, ltb}
-use lib.ListN.{length, getD, take, drop, set, length-take, length-drop, length-set, List·getD-eq-default}
-use lib.Seq.{getD-take, getD-drop, getD-set-same, getD-set-other, drop-set-lt, drop-set-add, take-set-le, take-set-lt, set-out}
+use lib.Dec.{eqb, leb}
+use lib.ListN.{length, getD, take, drop, set, length-take, length-drop, List·getD-eq-default}
+use lib.Seq.{getD-take, getD-drop, drop-set-lt, drop-set-add, take-set-le, take-set-lt}
 use Rattle.base.specs.Outcome.{pick}
 use Rattle.base.proofs.Cases.{by-test, by-order}
 use Rattle.packet.specs.Packet.{Bytes}
-use Rattle.checksum.specs.Checksum.{sumOf, range, passes, total, multiple, place, share}
-use Rattle.checksum.proofs.SumLaws.{total-nil, total-one, total-two, sum-multiple}
+use Rattle.checksum.specs.Checksum.{range, passes, total, multiple, place, share}
+use Rattle.checksum.proofs.SumLaws.{total-one, total-two, sum-multiple}
 
 -- the elements of a part are bytes, and so is what is written
 pub bytes-drop : (a : ℕ) (s : List ℕ) → Bytes s → Bytes (drop a s)

@@ -2,9 +2,9 @@
 -- What counts is the total of the range with the field as zero; a written field adds its number to it.
 use mathlib.Core.Path.{_≡_, refl, sym, ap, _∙_}
 use mathlib.Core.Logic.{_≢_}
-use mathlib.Core.Bool.{Bool, true, false}
-use mathlib.Core.List.{List, [], _∷_}
-use Prim.Native.Nat.{ℕ, zero, suc, _+_, _-_, _*_, _/_, _%_, _<_, _≤_}
+use mathlib.Core.Bool.{true, false}
+use mathlib.Core.List.{List}
+use Prim.Native.Nat.{ℕ, _+_, _-_, _/_, _%_, _<_, _≤_}
 use native.Mathlib.Omega.{arith}
 use borrow.Author.Tests.{eq-eqb}
 use lib.ListN.{length, getD, take, drop, set, length-set}
@@ -12,9 +12,9 @@ use lib.Seq.{set-set, set-comm, getD-set-same, getD-set-other}
 use Rattle.base.proofs.Cases.{by-order}
 use Rattle.packet.specs.Packet.{Bytes, bits}
 use Rattle.checksum.specs.Checksum.{sumOf, range, passes, total, norm, multiple, share, unfitRange, unfitField, written, stamped}
-use Rattle.checksum.proofs.SumLaws.{sum-norm, norm-zero, norm-positive, norm-lt, multiple-positive, sum-lt}
+use Rattle.checksum.proofs.SumLaws.{sum-norm, norm-zero, norm-positive, multiple-positive}
 use Rattle.checksum.proofs.RangeLaws.{bytes-set, bytes-range, passes-total, total-range-set, share-within, place-even, place-odd}
-use Rattle.checksum.proofs.ConditionLaws.{FitRange, FitField, fit-range, fit-field}
+use Rattle.checksum.proofs.ConditionLaws.{FitField, fit-range, fit-field}
 
 pub written-is : (f v : ℕ) (s : List ℕ) → written f v s ≡ set (set s f (v / 256)) (f + 1) (v % 256)
 unfolding written
@@ -83,6 +83,14 @@ complete t =
     let z : t ≡ 0 = omega arith in
     ap (λ (x : ℕ). multiple (x + (65535 - norm x))) z ∙ ap (λ (x : ℕ). multiple (0 + (65535 - x))) norm-zero ∙ multiple-positive 65535 (omega arith))
 
+pub length-stamped : (a e f : ℕ) (s : List ℕ) → length (stamped a e f s) ≡ length s
+unfolding stamped
+length-stamped a e f s = length-written f _ s
+
+pub bytes-stamped : (a e f : ℕ) (s : List ℕ) → Bytes s → Bytes (stamped a e f s)
+unfolding stamped
+bytes-stamped a e f s b = bytes-written f _ s b (omega arith)
+
 pub stamp-passes : (n a e f : ℕ) (s : List ℕ) → Bytes s → unfitRange n (bits s) a e ≡ false → unfitField a e f ≡ false
     → passes a e (stamped a e f s) ≡ true
 unfolding stamped
@@ -91,6 +99,6 @@ stamp-passes n a e f s b hr hf =
     let he : e ≤ length s = omega arith in
     let z = written f 0 s in
     let bz = bytes-range a e z (bytes-written f 0 s b (omega arith)) in
-    passes-total a e _ (bytes-written f _ s b (omega arith))
+    passes-total a e _ (bytes-stamped a e f s b)
     ∙ ap multiple (total-written a e f s (fit-field a e f hf) he (65535 - sumOf (range a e z)) ∙ ap (λ (x : ℕ). total (range a e z) + (65535 - x)) (sum-norm (range a e z) bz))
     ∙ complete (total (range a e z))

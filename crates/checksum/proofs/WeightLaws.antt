@@ -8,16 +8,17 @@ use native.Mathlib.Omega.{arith}
 use native.Mathlib.Nat.{div-eq-of-lt, lt-trans}
 use borrow.Author.Tests.{eqb-true, eqb-false}
 use lib.Dec.{eqb}
-use lib.Bits.{bitXor, bitAnd, differ, xor-lt, xor-add-and, and-high, xor-shr}
-use lib.Pow.{pow-lt, pow-add, pow-pos, shl-shr}
-use lib.ListN.{length, getD, set, length-set}
+use lib.Bits.{bitXor, bitAnd, differ, xor-add-and, and-high, xor-shr}
+use lib.Pow.{pow-lt, pow-add, shl-shr}
+use lib.ListN.{length, getD, length-set}
 use lib.Seq.{getD-set-same, getD-set-other}
 use Rattle.base.specs.Lists.{All, none, each, Chain, empty, single, link}
 use Rattle.base.proofs.Cases.{by-order, by-test}
 use Rattle.base.proofs.XorLaws.{xor-low}
-use Rattle.packet.specs.Packet.{Bytes, bits, bitAt, flip, flips}
+use Rattle.packet.specs.Packet.{bits, bitAt, flip, flips}
+use Rattle.packet.proofs.FlipLaws.{flip-length}
 use Rattle.checksum.specs.Checksum.{range, total, share, weight, setWeight, clearWeight}
-use Rattle.checksum.proofs.RangeLaws.{bytes-set, total-range-set}
+use Rattle.checksum.proofs.RangeLaws.{total-range-set}
 
 -- one bit of a number
 
@@ -64,14 +65,6 @@ pub bitAt-lt : (s : List ℕ) (p : ℕ) → bitAt s p < 2
 unfolding bitAt
 bitAt-lt s p = omega arith
 
-pub length-flip : (s : List ℕ) (p : ℕ) → length (flip s p) ≡ length s
-unfolding flip
-length-flip s p = simp length-set
-
-pub bytes-flip : (s : List ℕ) (p : ℕ) → Bytes s → Bytes (flip s p)
-unfolding flip
-bytes-flip s p b = bytes-set s _ _ b (xor-lt 8 _ _ (b _) (pow-lt {j = 8} (omega arith)))
-
 bitAt-same-byte : (s : List ℕ) (p q : ℕ) → p < bits s → p / 8 ≡ q / 8 → p % 8 ≢ q % 8 → bitAt (flip s p) q ≡ bitAt s q
 unfolding bitAt flip
 bitAt-same-byte s p q hp e h =
@@ -92,7 +85,7 @@ bitAt-flip-other s p q hp hq h =
 
 pub weight-flip : (a e : ℕ) (s : List ℕ) (p q : ℕ) → weight a e (flip s p) q ≡ weight a e s q
 unfolding weight
-weight-flip a e s p q = simp length-flip
+weight-flip a e s p q = simp flip-length
 
 weigh : (t t′ c b v d w : ℕ) → d < 2 → t′ + c * b ≡ t + c * v → v + d * w ≡ b + (1 - d) * w
     → t′ + d * (c * w) ≡ t + (1 - d) * (c * w)
@@ -166,7 +159,7 @@ ascending-tail single = empty
 ascending-tail (link l c) = c
 
 all-flip : {ps : List ℕ} (s : List ℕ) (p : ℕ) → All (λ q. q < bits s) ps → All (λ q. q < bits (flip s p)) ps
-all-flip s p h = rw (length-flip s p) h
+all-flip s p h = rw (flip-length s p) h
 
 pub total-flips : (a e : ℕ) (s : List ℕ) (ps : List ℕ) → Chain _<_ ps → All (λ p. p < bits s) ps → e ≤ length s
     → total (range a e (flips s ps)) + setWeight a e s ps ≡ total (range a e s) + clearWeight a e s ps
@@ -179,5 +172,5 @@ total-flips a e s (p ∷ ps) c (each h hs) he =
       total-flip a e s p he,
       setWeight-flip a e s p h up hs,
       clearWeight-flip a e s p h up hs,
-      total-flips a e (flip s p) ps (ascending-tail c) (all-flip s p hs) (rw (length-flip s p) he),
+      total-flips a e (flip s p) ps (ascending-tail c) (all-flip s p hs) (rw (flip-length s p) he),
     ))

@@ -1,5 +1,5 @@
 -- `field_unfit` decides condition 10: no sum is taken before the field is known to begin in the range.
-use mathlib.Core.Path.{sym, _∙_}
+use mathlib.Core.Path.{sym}
 use native.Mathlib.Omega.{arith}
 use borrow.Author.Needs.{needs}
 use Rattle.checksum.proofs.ConditionLaws.{before-unfit, past-unfit, field-unfit}

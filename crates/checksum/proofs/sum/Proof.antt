@@ -1,7 +1,7 @@
 -- `sum` equals its definition. Invariant: the running sum, continued over the words that are left, is the sum of all.
 -- The measure is what is left of the bytes.
 use Prim.Native.Nat.{ℕ, _+_, _-_, _<_}
-use mathlib.Core.Path.{_≡_, refl, sym, ap, _∙_}
+use mathlib.Core.Path.{_≡_, sym, ap, _∙_}
 use lib.ListN.{length, drop}
 use Rattle.checksum.specs.Checksum.{sumFrom, sumOf, words}
 use Rattle.checksum.proofs.SumLaws.{sum-start, sum-turn, sum-past}
