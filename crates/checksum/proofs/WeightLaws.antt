@@ -15,10 +15,10 @@ use lib.Seq.{getD-set-same, getD-set-other}
 use Rattle.base.specs.Lists.{All, none, each, Chain, empty, single, link}
 use Rattle.base.proofs.Cases.{by-order, by-test}
 use Rattle.base.proofs.XorLaws.{xor-low}
-use Rattle.packet.specs.Packet.{bits, bitAt, flip, flips}
-use Rattle.packet.proofs.FlipLaws.{flip-length}
-use Rattle.checksum.specs.Checksum.{range, total, share, weight, setWeight, clearWeight}
-use Rattle.checksum.proofs.RangeLaws.{total-range-set}
+use Rattle.packet.specs.Packet.{Bytes, bits, bitAt, flip, flips}
+use Rattle.packet.proofs.FlipLaws.{flip-length, flips-bytes}
+use Rattle.checksum.specs.Checksum.{range, passes, total, multiple, share, weight, setWeight, clearWeight}
+use Rattle.checksum.proofs.RangeLaws.{total-range-set, passes-total}
 
 -- one bit of a number
 
@@ -174,3 +174,11 @@ total-flips a e s (p ∷ ps) c (each h hs) he =
       clearWeight-flip a e s p h up hs,
       total-flips a e (flip s p) ps (ascending-tail c) (all-flip s p hs) (rw (flip-length s p) he),
     ))
+
+-- the second check of a flipped packet, decided without summing again
+pub passes-flips : (a e : ℕ) (s : List ℕ) (ps : List ℕ) → Chain _<_ ps → All (λ p. p < bits s) ps → e ≤ length s → Bytes s
+    → passes a e (flips s ps) ≡ multiple (total (range a e s) + clearWeight a e s ps - setWeight a e s ps)
+passes-flips a e s ps c h he b =
+    let after : total (range a e (flips s ps)) ≡ total (range a e s) + clearWeight a e s ps - setWeight a e s ps =
+    omega (arith, total-flips a e s ps c h he) in
+    passes-total a e (flips s ps) (flips-bytes s ps h b) ∙ ap multiple after

@@ -1,6 +1,6 @@
 -- `range_unfit` decides condition 9: a range past the packet would also reach past the length in bits.
 use mathlib.Core.Path.{sym, _∙_}
-use Prim.Native.Nat.{_+_, _*_, _<_}
+use Prim.Native.Nat.{_+_, _*_, _<_, _≤_}
 use native.Mathlib.Omega.{arith}
 use borrow.Author.Needs.{needs}
 use borrow.Author.Tests.{lt-ltb}
@@ -9,7 +9,10 @@ use Rattle.checksum.proofs.range_unfit.Statement.{statement}
 use Rattle.checksum.proofs.range_unfit.Tie as tie
 
 returns : tie.Need-returns
-returns c = sym (empty-unfit _ _ _ _ (c .if1 .taken))
+returns c =
+    let s = c .before .args in
+    let empty : s .e ≤ s .a = omega arith in
+    sym (empty-unfit _ _ _ _ empty)
 
 returns-2 : tie.Need-returns-2
 returns-2 c =

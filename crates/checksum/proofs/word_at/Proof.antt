@@ -3,7 +3,6 @@ use Prim.Native.Nat.{_+_, _<_}
 use lib.ListN.{getD, List·getD-eq-default}
 use borrow.Author.Needs.{needs}
 use native.Mathlib.Omega.{arith}
-use borrow.Author.Needs.{needs}
 use Rattle.checksum.proofs.word_at.Statement.{statement}
 use Rattle.checksum.proofs.word_at.Tie as tie
 

@@ -1,8 +1,9 @@
 -- `write_field` writes the two bytes of a number, the high one first.
 use mathlib.Core.Path.{refl}
 use borrow.Author.Needs.{needs}
+use native.Mathlib.Omega.{arith}
+use lib.ListN.{length-set}
 use Rattle.checksum.specs.Checksum.{written}
-use borrow.Author.Needs.{needs}
 use Rattle.checksum.proofs.write_field.Statement.{statement}
 use Rattle.checksum.proofs.write_field.Tie as tie
 
@@ -19,7 +20,7 @@ add-packet : tie.Need-add-packet
 add-packet c = search needs
 
 slice-write-packet-2 : tie.Need-slice-write-packet-2
-slice-write-packet-2 c = search needs
+slice-write-packet-2 c = simp length-set (omega arith)
 
 same-length : tie.Need-same-length
 same-length c = search needs
