@@ -1,0 +1,4 @@
+pub mod SearchLaws
+pub mod FillLaws
+pub mod LookupLaws
+pub mod CallLaws

@@ -51,4 +51,4 @@ pageConditions r mark =
     when 1 (unfit (r .generator))
     ∷ when 2 (unfitLength (degree (r .generator)) (r .bits))
     ∷ laterConditions (degree (r .generator)) (r .generator) (r .bits) (r .limit) (r .syndrome) (r .steps) (r .firsts) mark
-      (length (r .output))
+    (length (r .output))

@@ -1,12 +1,11 @@
 -- The sets of k positions: their count, that they ascend, and what of them comes after a given one.
-use mathlib.Core.Path.{_≡_, refl, sym, ap, ap₂, _∙_}
-use mathlib.Core.Bool.{Bool, true, false}
+use mathlib.Core.Path.{_≡_, refl, ap, ap₂, _∙_}
+use mathlib.Core.Bool.{true}
 use mathlib.Core.List.{List, [], _∷_, _++_, map}
 use Prim.Native.Nat.{ℕ, zero, suc, _+_, _-_, _<_, _≤_}
 use native.Mathlib.Omega.{arith}
 use lib.ListN.{length}
 use Rattle.base.specs.Lists.{All, none, each}
-use Rattle.base.proofs.Cases.{by-order}
 use Rattle.patterns.specs.Order.{lower}
 use Rattle.patterns.specs.Listing.{Ascending, none as ends, next, choose, sift}
 use Rattle.search.proofs.SiftLaws.{sift-append, sift-map, sift-all, sift-none, sift-same, all-append, all-of, all-map, all-mapped}

@@ -1,6 +1,6 @@
 -- The first set of a given sum: one step of the search for it, from a position and after a set.
-use mathlib.Core.Path.{_≡_, refl, sym, ap, ap₂, _∙_}
-use mathlib.Core.Bool.{Bool, true, false}
+use mathlib.Core.Path.{_≡_, refl, sym, ap, _∙_}
+use mathlib.Core.Bool.{Bool}
 use mathlib.Core.List.{List, [], _∷_, _++_, map}
 use Prim.Native.Nat.{ℕ, zero, suc, _+_, _-_, _<_, _≤_}
 use native.Mathlib.Omega.{arith}
@@ -10,11 +10,10 @@ use lib.Bits.{bitXor, xor-comm}
 use lib.Dec.{eqb}
 use lib.ListN.{length}
 use borrow.Author.Tests.{eq-eqb, ne-eqb, eqb-true, eqb-false}
-use Rattle.base.specs.Lists.{All, none, each}
 use Rattle.base.proofs.Cases.{by-test}
 use Rattle.base.proofs.XorLaws.{xor-ac, xor-cancel}
 use Rattle.patterns.specs.Order.{lower}
-use Rattle.patterns.specs.Listing.{Ascending, none as ends, next, choose, sift}
+use Rattle.patterns.specs.Listing.{Ascending, next, choose, sift}
 use Rattle.search.specs.Search.{xorAll, summing, Head, nothing, leads, headOf, firstOf, firstAfter, answer}
 use Rattle.search.proofs.SiftLaws.{sift-append, sift-map, sift-none, sift-same, sift-comm, all-of}
 use Rattle.search.proofs.OrderLaws.{lower-nil}

@@ -6,3 +6,4 @@ pub mod HeadLaws
 pub mod NearestLaws
 pub mod TailLaws
 pub mod ToldLaws
+pub mod PowerLaws

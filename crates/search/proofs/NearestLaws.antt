@@ -1,9 +1,9 @@
 -- The nearest position of a power: found by the first one and the period, and what it decides of the sets of one
 -- and of two positions.
-use mathlib.Core.Path.{_≡_, refl, sym, ap, ap₂, _∙_}
-use mathlib.Core.Bool.{Bool, true, false}
+use mathlib.Core.Path.{_≡_, refl, sym, ap, _∙_}
+use mathlib.Core.Bool.{true, false}
 use mathlib.Core.List.{List, [], _∷_}
-use Prim.Native.Nat.{ℕ, zero, suc, _+_, _-_, _*_, _/_, _%_, _<_, _≤_}
+use Prim.Native.Nat.{ℕ, zero, suc, _+_, _-_, _*_, _/_, _<_, _≤_}
 use native.Mathlib.Omega.{arith}
 use native.Mathlib.Nat.{mod-lt, div-add-mod', mul-le-mul-right, suc-mul}
 use lib.Bits.{bitXor, xor-self}
@@ -12,7 +12,7 @@ use lib.ListN.{length, getD, set}
 use borrow.Author.Tests.{lt-ltb, le-ltb, eq-eqb, ne-eqb, eqb-true, eqb-false}
 use Rattle.base.proofs.Cases.{by-test, by-order}
 use Rattle.base.proofs.XorLaws.{xor-zero-equal}
-use Rattle.search.specs.Search.{Head, nothing, leads, firstOf, answer, Nearest, Lookup, Ready}
+use Rattle.search.specs.Search.{Head, firstOf, answer, Nearest, Lookup, Ready}
 use Rattle.search.proofs.HeadLaws.{orElse, onto, firstOf-zero, firstOf-past, firstOf-step}
 
 -- the least multiple of c that is at least d

@@ -1,17 +1,16 @@
 -- The order of patterns by cases, that it is strict and transitive, and lists that ascend in it.
-use mathlib.Core.Path.{_≡_, refl, sym, ap, _∙_}
+use mathlib.Core.Path.{_≡_, refl, sym, _∙_}
 use mathlib.Core.Bool.{Bool, true, false}
-use mathlib.Core.List.{List, [], _∷_, _++_, map}
-use Prim.Native.Nat.{ℕ, zero, suc, _<_, _≤_}
+use mathlib.Core.List.{List, [], _∷_, _++_}
+use Prim.Native.Nat.{ℕ, _<_, _≤_}
 use native.Mathlib.Omega.{arith}
-use borrow.Author.Tests.{lt-ltb, le-ltb, eq-eqb, ne-eqb, ltb-true, ltb-false, eqb-true, eqb-false}
-use lib.Dec.{ltb, eqb}
+use borrow.Author.Tests.{lt-ltb, le-ltb, eq-eqb, ne-eqb}
 use lib.ListN.{length}
 use Rattle.base.specs.Lists.{All, none, each}
 use Rattle.base.proofs.Cases.{by-test, by-order}
 use Rattle.patterns.specs.Order.{lower, before}
 use Rattle.patterns.specs.Listing.{sift}
-use Rattle.search.proofs.SiftLaws.{all-sift, all-append, all-mapped}
+use Rattle.search.proofs.SiftLaws.{all-sift, all-append}
 
 true-false : {b : Bool} → b ≡ true → b ≡ false → ⊥
 true-false h k = let z : _≡_ {A = ℕ} 0 1 = cc in omega arith

@@ -9,11 +9,10 @@ use lib.Dec.{eqb}
 use lib.ListN.{length, take, drop}
 use lib.Seq.{length-take-le, take-at}
 use Rattle.base.specs.Lists.{All, none, each}
-use Rattle.base.proofs.Cases.{by-order}
 use Rattle.patterns.specs.Order.{lower, before}
 use Rattle.patterns.specs.Listing.{Ascending, choose, upTo, sift}
 use Rattle.search.specs.Search.{xorAll, summing, listed, Head, nothing, leads, headOf, rising, firstOf, firstAfter, answer, Leads}
-use Rattle.search.proofs.SiftLaws.{sift-append, sift-all, sift-none, sift-same, sift-skip, sift-within, passing, all-append, all-map, all-of, all-sift}
+use Rattle.search.proofs.SiftLaws.{sift-append, sift-all, sift-none, sift-same, sift-skip, sift-within, passing, all-append, all-map, all-sift}
 use Rattle.search.proofs.OrderLaws.{before-fewer, before-more, before-equal, before-irrefl, before-trans, Sorted, nil, cons, sorted-append, sorted-sift}
 use Rattle.search.proofs.ChooseLaws.{choose-count, choose-ascending, choose-sorted}
 use Rattle.search.proofs.HeadLaws.{orElse, head-append, head-nil, summing-append, summing-sift, summing-nil, firstOf-whole}

@@ -1,5 +1,5 @@
 -- Sifting a list: of joined and of mapped lists, twice, by tests that agree, and what holds of what is left.
-use mathlib.Core.Path.{_≡_, refl, sym, ap, _∙_}
+use mathlib.Core.Path.{_≡_, refl, ap}
 use mathlib.Core.Bool.{Bool, true, false}
 use mathlib.Core.List.{List, [], _∷_, _++_, map}
 use Rattle.base.specs.Lists.{All, none, each}
@@ -7,10 +7,6 @@ use Rattle.base.proofs.Cases.{by-test}
 use Rattle.patterns.specs.Listing.{sift}
 
 module _ {A : Type 0} where
-  pub sift-keep : (P : A → Bool) (x : A) (xs : List A) → P x ≡ true → sift P (x ∷ xs) ≡ x ∷ sift P xs
-  unfolding sift
-  sift-keep P x xs e = rw e
-
   pub sift-skip : (P : A → Bool) (x : A) (xs : List A) → P x ≡ false → sift P (x ∷ xs) ≡ sift P xs
   unfolding sift
   sift-skip P x xs e = rw e

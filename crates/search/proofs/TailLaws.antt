@@ -2,17 +2,18 @@
 use mathlib.Core.Path.{_≡_, refl, sym, ap, ap₂, _∙_}
 use mathlib.Core.Bool.{Bool, true, false}
 use mathlib.Core.List.{List, [], _∷_, _++_, append-nil}
-use Prim.Native.Nat.{ℕ, zero, suc, _+_, _-_, _<_, _≤_}
+use Prim.Native.Nat.{ℕ, suc, _+_, _-_, _<_, _≤_}
 use native.Mathlib.Omega.{arith}
 use lib.Bits.{bitXor}
+use lib.Dec.{ltb}
 use lib.ListN.{length, getD, take, drop, set}
 use lib.Seq.{drop-length, take-length}
 use borrow.Rule.Slice.PartMut.{midOf, putMid, mid-len}
 use Rattle.patterns.specs.Listing.{Ascending, none as ends, next}
-use Rattle.search.specs.Search.{Head, nothing, leads, firstOf, firstAfter, answer, Lookup}
+use Rattle.search.specs.Search.{Head, leads, firstOf, firstAfter, answer, Lookup, Nearest}
 use Rattle.search.proofs.ChooseLaws.{ascending-from}
-use Rattle.search.proofs.HeadLaws.{orElse, onto, firstAfter-cons}
-use Rattle.search.proofs.NearestLaws.{place-turn}
+use Rattle.search.proofs.HeadLaws.{orElse, onto, firstAfter-cons, firstAfter-empty}
+use Rattle.search.proofs.NearestLaws.{place-turn, nearest-first}
 
 pub tail-length : (xs : List ℕ) → length (midOf 1 (length xs - 1) xs) ≡ length xs - 1
 tail-length xs = mid-len 1 (length xs) xs (omega arith)
@@ -86,3 +87,33 @@ module _ {power : ℕ → ℕ} {pow first : List ℕ} {period : ℕ} (t : Lookup
   pub resume-miss : r ≡ false → firstOf power (length pow) (length (putMid 1 (length xs - 1) xs ys)) (getD xs 0 0 + 1) u ≡ firstAfter power (length pow) xs u
   resume-miss e =
       ap (λ (k : ℕ). firstOf power (length pow) k (getD xs 0 0 + 1) u) (tail-back-length xs ys room same) ∙ sym (after ∙ rw e)
+
+-- after a set of two: the nearest past its last position decides of those that start as it does
+pub pair-after : {power : ℕ → ℕ} {pow first : List ℕ} {period : ℕ} (t : Lookup power pow first period) (u b : ℕ) (xs : List ℕ)
+    → length xs ≡ 2 → Ascending (length pow) 0 xs → Nearest power (length pow) (getD xs 1 0 + 1) (bitXor u (getD pow (getD xs 0 0) 0)) b
+    → firstAfter power (length pow) xs u
+    ≡ orElse (onto (getD xs 0 0) (answer (ltb b (length pow)) (b ∷ []))) (firstOf power (length pow) 2 (getD xs 0 0 + 1) u)
+pair-after t u b [] e asc n = absurd (omega arith)
+pair-after t u b (p ∷ []) e asc n = absurd (omega arith)
+pair-after t u b (p ∷ q ∷ x ∷ xs) e asc n = absurd (omega arith)
+pair-after {power} {pow} t u b (p ∷ q ∷ []) e asc n =
+    let l = length pow in
+    let v = bitXor u (getD pow p 0) in
+    let tail = tail-ascends asc (omega arith) in
+    let h = head-below tail (omega arith) in
+    resume-turn t u (p ∷ q ∷ []) asc (omega arith)
+    ∙ ap (λ (x : Head). orElse (onto p x) (firstOf power l 2 (p + 1) u))
+    (resume-turn t v (q ∷ []) tail (omega arith)
+    ∙ ap (λ (x : Head). orElse (onto q x) (firstOf power l 1 (q + 1) v)) (firstAfter-empty power l (bitXor v (getD pow q 0)) [] refl)
+    ∙ nearest-first power l v b (l - (q + 1)) (q + 1) (omega arith) n)
+
+pub second-below : {l : ℕ} {xs : List ℕ} → Ascending l 0 xs → length xs ≡ 2 → getD xs 1 0 < l
+second-below ends h = absurd (omega arith)
+second-below (next a b ends) h = absurd (omega arith)
+second-below (next a b (next c d e)) h = d
+
+pub set-second : (xs : List ℕ) (b : ℕ) → length xs ≡ 2 → set xs 1 b ≡ getD xs 0 0 ∷ b ∷ []
+set-second [] b h = absurd (omega arith)
+set-second (x ∷ []) b h = absurd (omega arith)
+set-second (x ∷ y ∷ []) b h = refl
+set-second (x ∷ y ∷ z ∷ xs) b h = absurd (omega arith)

@@ -1,14 +1,14 @@
 -- What the two searches tell, from the first set that they found: of the whole list, and of what follows a set.
-use mathlib.Core.Path.{_≡_, refl, sym, ap, ap₂, _∙_}
+use mathlib.Core.Path.{_≡_, sym, ap, ap₂, _∙_}
 use mathlib.Core.Bool.{Bool, true, false}
-use mathlib.Core.List.{List, [], _∷_, _++_}
-use Prim.Native.Nat.{ℕ, zero, suc, _+_, _-_, _≤_}
+use mathlib.Core.List.{List, _++_}
+use Prim.Native.Nat.{ℕ, suc, _+_, _-_, _≤_}
 use native.Mathlib.Omega.{arith}
 use lib.ListN.{length, take, drop}
 use lib.Seq.{length-take-le, take-at}
 use Rattle.patterns.specs.Order.{before}
 use Rattle.patterns.specs.Listing.{sift}
-use Rattle.search.specs.Search.{summing, listed, Head, leads, headOf, firstAfter, rising, answer, found, Counted, Told}
+use Rattle.search.specs.Search.{summing, listed, leads, headOf, firstAfter, rising, answer, found, Counted, Told}
 use Rattle.search.specs.declared.Found.{Found}
 use Rattle.search.specs.declared.Found.the-variants.{At, Nothing}
 use Rattle.search.proofs.HeadLaws.{orElse}

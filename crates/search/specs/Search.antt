@@ -1,16 +1,21 @@
 -- What a search goes through and what it answers, over any powers: the sets of positions whose powers have a given
 -- sum, and the first of them.
-use Prim.Native.Nat.{ℕ, zero, suc, _+_, _-_, _*_, _≤_, _<_}
+use Prim.Native.Nat.{ℕ, zero, suc, _+_, _-_, _*_, _^_, _≤_, _<_}
 use mathlib.Core.Path.{_≡_}
 use mathlib.Core.Bool.{Bool, true, false}
 use mathlib.Core.List.{List, [], _∷_, _++_}
 use lib.Bits.{bitXor}
 use lib.Dec.{eqb}
 use lib.ListN.{length, getD, take}
+use Rattle.poly.specs.Polynomial.{rem}
 use Rattle.patterns.specs.Order.{lower, before}
 use Rattle.patterns.specs.Listing.{Ascending, choose, upTo, sift}
 use Rattle.search.specs.declared.Found.{Found}
 use Rattle.search.specs.declared.Found.the-variants.{At, Nothing}
+
+-- the power of x at position p, as a generator g of degree n leaves it
+unfoldable pub power : ℕ → ℕ → ℕ → ℕ
+power n g p = rem n g (2 ^ p)
 
 -- the sum of the powers at the given positions
 unfoldable pub xorAll : (ℕ → ℕ) → List ℕ → ℕ
@@ -70,7 +75,6 @@ pub record Nearest (power : ℕ → ℕ) (l lo u p : ℕ) : Type 0 where
 -- what the two tables are to a search: the powers below l, and the first position of each
 pub record Lookup (power : ℕ → ℕ) (pow first : List ℕ) (period : ℕ) : Type 0 where
   pub known : (p : ℕ) → p < length pow → getD pow p 0 ≡ power p
-  pub bound : (p : ℕ) → power p < length first
   pub hit : (s : ℕ) → s < length first → getD first s 0 < 65535 → power (getD first s 0) ≡ s
   pub least : (p : ℕ) → getD first (power p) 0 ≤ p
   pub again : (p : ℕ) → power (p + period) ≡ power p

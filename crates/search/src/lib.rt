@@ -117,6 +117,21 @@ fn place(pow: &[u16], first: &[u16], period: usize, lo: usize, u: usize, pos: &m
     false
 }
 
+// Goes on from two positions. It is `resume` for two, and spelt out since a page does it for each record.
+fn resume_pair(pow: &[u16], first: &[u16], period: usize, u: usize, pos: &mut [u16]) -> bool
+    requires { ⌜ Ready (now pow) (now first) period 0 u × (length (now pos) ≡ 2) × Ascending (length (now pow)) 0 (now pos) ⌝ }
+    ensures { λ r. ⌜ ((power : ℕ → ℕ) → Lookup power (now (pow .entry)) (now (first .entry)) period → answer r (now (pos .exit)) ≡ firstAfter power (length (now (pow .entry))) (now (pos .entry)) u) ⌝ }
+{
+    let p = pos[0] as usize;
+    let q = pos[1] as usize;
+    let b = nearest(pow, first, period, q + 1, u ^ (pow[p] as usize));
+    if b < pow.len() {
+        pos[1] = b as u16;
+        return true;
+    }
+    pair(pow, first, period, p + 1, u, pos)
+}
+
 // Goes on from the positions in `pos`, which need not have the sum `u`: to the first set of as many positions that
 // comes after them.
 fn resume(pow: &[u16], first: &[u16], period: usize, u: usize, pos: &mut [u16]) -> bool
@@ -125,6 +140,9 @@ fn resume(pow: &[u16], first: &[u16], period: usize, u: usize, pos: &mut [u16]) 
 {
     if pos.len() == 0 {
         return false;
+    }
+    if pos.len() == 2 {
+        return resume_pair(pow, first, period, u, pos);
     }
     let p = pos[0] as usize;
     let v = u ^ (pow[p] as usize);

@@ -34,9 +34,10 @@ verify-requires : tie.Need-verify-requires
 verify-requires c κs =
     let s = c .before .before .before .before .before .before .before .before in
     let p = s .pre in
-    let l = fit-lengths _ _ _ (sym (c .before .unfit-tables .ensures) ∙ c .if3 .left) in
-    (record { divisor = p .divisor; atLeast = p .least; atMost = p .most; full = l .0 },
-      record { divisor = p .divisor; atLeast = p .least; atMost = p .most; full = l .1 })
+    let l = fit-lengths _ _ _ (sym (c .before .unfit-tables .ensures) ∙ c .if3 .left) in (
+      record { divisor = p .divisor; atLeast = p .least; atMost = p .most; full = l .0 },
+      record { divisor = p .divisor; atLeast = p .least; atMost = p .most; full = l .1 },
+    )
 
 returns-4 : tie.Need-returns-4
 returns-4 c =

@@ -1,14 +1,12 @@
 -- `place` finds the first set of as many positions as there is room for. It ends since each call has one position
 -- less to place. The loop's invariant: no such set starts between `lo` and `a`.
-use mathlib.Core.Path.{_≡_, refl, sym, ap, ap₂, _∙_}
-use mathlib.Core.List.{List, [], _∷_}
-use Prim.Native.Nat.{ℕ, suc, _+_, _-_, _<_, _≤_}
+use mathlib.Core.Path.{_≡_, refl, sym, ap, _∙_}
+use Prim.Native.Nat.{ℕ, suc, _-_, _≤_, _<_}
 use borrow.Author.Needs.{needs}
 use native.Mathlib.Omega.{arith}
-use lib.Bits.{bitXor}
-use lib.ListN.{length, getD, length-set}
-use Rattle.search.specs.Search.{Head, leads, answer, firstOf, Lookup}
-use Rattle.search.proofs.HeadLaws.{orElse, onto, firstOf-past}
+use lib.ListN.{length, length-set}
+use Rattle.search.specs.Search.{firstOf, Lookup}
+use Rattle.search.proofs.HeadLaws.{firstOf-past}
 use Rattle.search.proofs.NearestLaws.{ready-next}
 use Rattle.search.proofs.TailLaws.{tail-length, tail-back-length, place-hit, place-miss}
 use borrow.Fn.Kinds.{In}

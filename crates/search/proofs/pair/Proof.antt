@@ -1,14 +1,12 @@
 -- `pair` finds the first set of two. The loop's invariant: no set of two starts between `lo` and `a`, so the first
 -- from `lo` on is the first from `a` on.
 use mathlib.Core.Path.{_≡_, refl, sym, ap, _∙_}
-use mathlib.Core.List.{List, [], _∷_}
-use Prim.Native.Nat.{ℕ, _-_, _+_, _≤_}
+use Prim.Native.Nat.{ℕ, _-_, _≤_}
 use borrow.Author.Needs.{needs}
 use borrow.Author.Tests.{lt-ltb, le-ltb}
 use native.Mathlib.Omega.{arith}
-use lib.Bits.{bitXor}
-use lib.ListN.{length, getD, length-set}
-use Rattle.search.specs.Search.{Head, leads, answer, firstOf, Lookup, Nearest}
+use lib.ListN.{length, length-set}
+use Rattle.search.specs.Search.{leads, firstOf, Lookup}
 use Rattle.search.proofs.HeadLaws.{firstOf-past}
 use Rattle.search.proofs.NearestLaws.{pair-turn, ready-next, set-two}
 use Rattle.search.proofs.pair.Statement.{statement}

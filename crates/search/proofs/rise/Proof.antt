@@ -1,10 +1,9 @@
 -- `rise` finds the first set of the counts from `count` on. The loop's invariant: the counts below `k` have none.
 use mathlib.Core.Path.{_≡_, refl, sym, ap, _∙_}
-use mathlib.Core.List.{List, [], _∷_}
 use Prim.Native.Nat.{ℕ, _+_, _-_, _≤_}
 use borrow.Author.Needs.{needs}
 use native.Mathlib.Omega.{arith}
-use lib.ListN.{length, take}
+use lib.ListN.{length}
 use lib.Seq.{length-take-le, length-front}
 use Rattle.search.specs.Search.{headOf, summing, rising, Lookup}
 use Rattle.search.proofs.RisingLaws.{rise-hit, rise-miss, rise-none}

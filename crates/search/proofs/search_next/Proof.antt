@@ -1,8 +1,7 @@
 -- `search_next` goes on among the sets of the given one's count, and then rises through the counts above it.
-use mathlib.Core.Path.{_≡_, refl, sym}
+use mathlib.Core.Path.{refl, sym}
 use mathlib.Core.List.{_++_}
 use borrow.Author.Needs.{needs}
-use native.Mathlib.Omega.{arith}
 use lib.ListN.{length, drop}
 use lib.Seq.{length-take-le, length-front}
 use Rattle.search.proofs.ToldLaws.{next-same, next-above}

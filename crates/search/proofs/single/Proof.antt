@@ -1,12 +1,11 @@
 -- `single` places the nearest position, which is the first set of one.
-use mathlib.Core.Path.{_≡_, refl, sym, ap, _∙_}
-use mathlib.Core.List.{List, [], _∷_}
+use mathlib.Core.Path.{sym, ap, _∙_}
 use Prim.Native.Nat.{_-_}
 use borrow.Author.Needs.{needs}
 use borrow.Author.Tests.{lt-ltb, le-ltb}
 use native.Mathlib.Omega.{arith}
 use lib.ListN.{length}
-use Rattle.search.specs.Search.{Head, leads, answer}
+use Rattle.search.specs.Search.{leads}
 use Rattle.search.proofs.NearestLaws.{nearest-first, set-one}
 use Rattle.search.proofs.single.Statement.{statement}
 use Rattle.search.proofs.single.Tie as tie
