@@ -1,0 +1,7 @@
+pub mod SumLaws
+pub mod RangeLaws
+pub mod WeightLaws
+pub mod ConditionLaws
+pub mod StampLaws
+pub mod CallLaws
+pub mod StampSealLaws

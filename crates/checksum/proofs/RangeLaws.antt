@@ -1,0 +1,117 @@
+-- How the total of a range changes with one byte of the packet: by what that byte counts there, which is nothing outside the range.
+-- The induction over the range takes two bytes, one word, at a time.
+use mathlib.Core.Path.{_≡_, refl, ap, _∙_}
+use mathlib.Core.List.{List, [], _∷_}
+use Prim.Native.Nat.{ℕ, zero, suc, _+_, _-_, _*_, _%_, _<_, _≤_}
+use native.Mathlib.Omega.{arith}
+use borrow.Author.Tests.{lt-ltb, le-ltb, le-leb, lt-leb, eq-eqb, ne-eqb}
+use lib.Dec.{eqb, leb}
+use lib.ListN.{length, getD, take, drop, set, length-take, length-drop, List·getD-eq-default}
+use lib.Seq.{getD-take, getD-drop, drop-set-lt, drop-set-add, take-set-le, take-set-lt}
+use Rattle.base.specs.Outcome.{pick}
+use Rattle.base.proofs.Cases.{by-test, by-order}
+use Rattle.packet.specs.Packet.{Bytes}
+use Rattle.checksum.specs.Checksum.{range, passes, total, multiple, place, share}
+use Rattle.checksum.proofs.SumLaws.{total-one, total-two, sum-multiple}
+
+-- the elements of a part are bytes, and so is what is written
+pub bytes-drop : (a : ℕ) (s : List ℕ) → Bytes s → Bytes (drop a s)
+bytes-drop a s b i = rw getD-drop (b (a + i))
+
+pub bytes-take : (n : ℕ) (s : List ℕ) → Bytes s → Bytes (take n s)
+bytes-take n s b i =
+    by-order i n (λ l. rw getD-take (b i))
+    (λ g. rw (List·getD-eq-default (take n s) 0 {n = i} (simp length-take (omega arith))) (omega arith))
+
+pub bytes-set : (s : List ℕ) (j v : ℕ) → Bytes s → v < 256 → Bytes (set s j v)
+bytes-set [] j v b h i = b i
+bytes-set (x ∷ s) zero v b h zero = h
+bytes-set (x ∷ s) zero v b h (suc i) = b (suc i)
+bytes-set (x ∷ s) (suc j) v b h zero = b 0
+bytes-set (x ∷ s) (suc j) v b h (suc i) = bytes-set s j v (λ k. b (suc k)) h i
+
+pub bytes-range : (a e : ℕ) (s : List ℕ) → Bytes s → Bytes (range a e s)
+unfolding range
+bytes-range a e s b = bytes-take (e - a) (drop a s) (bytes-drop a s b)
+
+-- the second check, decided from the plain total
+pub passes-total : (a e : ℕ) (s : List ℕ) → Bytes s → passes a e s ≡ multiple (total (range a e s))
+unfolding passes
+passes-total a e s b = sum-multiple (range a e s) (bytes-range a e s b)
+
+pub length-range : (a e : ℕ) (s : List ℕ) → e ≤ length s → length (range a e s) ≡ e - a
+unfolding range
+length-range a e s h = simp (length-take, length-drop) (omega arith)
+
+pub place-even : (i : ℕ) → i % 2 ≡ 0 → place i ≡ 256
+unfolding place
+place-even i h = simp (eq-eqb _ _ h)
+
+pub place-odd : (i : ℕ) → i % 2 ≡ 1 → place i ≡ 1
+unfolding place
+place-odd i h = simp (ne-eqb (i % 2) 0 (omega arith))
+
+place-two : (i : ℕ) → place (suc (suc i)) ≡ place i
+unfolding place
+place-two i =
+    let e : suc (suc i) % 2 ≡ i % 2 = omega arith in
+    ap (λ (x : ℕ). pick (eqb x 0) 256 1) e
+
+-- one byte changed, among all
+pub total-set : (s : List ℕ) (i v : ℕ) → i < length s → total (set s i v) + place i * getD s i 0 ≡ total s + place i * v
+total-set [] i v h = absurd (omega arith)
+total-set (x ∷ []) zero v h = rw (place-even 0 refl) (omega (arith, total-one v, total-one x))
+total-set (x ∷ []) (suc i) v h = absurd (omega arith)
+total-set (x ∷ y ∷ s) zero v h = rw (place-even 0 refl) (omega (arith, total-two v y s, total-two x y s))
+total-set (x ∷ y ∷ s) (suc zero) v h = rw (place-odd 1 refl) (omega (arith, total-two x v s, total-two x y s))
+total-set (x ∷ y ∷ s) (suc (suc i)) v h =
+    rw (place-two i) (omega (arith, total-two x y (set s i v), total-two x y s, total-set s i v (omega arith)))
+
+-- what is outside the range counts nothing
+share-below : (a e i : ℕ) → i < a → share a e i ≡ 0
+unfolding share
+share-below a e i h = simp (lt-leb _ _ h)
+
+share-above : (a e i : ℕ) → e ≤ i → share a e i ≡ 0
+unfolding share
+share-above a e i h = by-test (leb a i) (λ t. simp (t, le-ltb _ _ h)) (λ t. simp t)
+
+pub share-within : (a e i : ℕ) → a ≤ i → i < e → share a e i ≡ place (i - a)
+unfolding share
+share-within a e i h l = simp (le-leb _ _ h, lt-ltb _ _ l)
+
+range-below : (a e i v : ℕ) (s : List ℕ) → i < a → range a e (set s i v) ≡ range a e s
+unfolding range
+range-below a e i v s h = simp drop-set-lt
+
+drop-set : (a i v : ℕ) (s : List ℕ) → a ≤ i → drop a (set s i v) ≡ set (drop a s) (i - a) v
+drop-set a i v s h =
+    let e : i ≡ a + (i - a) = omega arith in
+    ap (λ (x : ℕ). drop a (set s x v)) e ∙ drop-set-add a s (i - a) v
+
+range-above : (a e i v : ℕ) (s : List ℕ) → a ≤ i → e ≤ i → range a e (set s i v) ≡ range a e s
+unfolding range
+range-above a e i v s h l = rw (drop-set a i v s h) (take-set-le (e - a) (drop a s) (i - a) v (omega arith))
+
+range-within : (a e i v : ℕ) (s : List ℕ) → a ≤ i → i < e → range a e (set s i v) ≡ set (range a e s) (i - a) v
+unfolding range
+range-within a e i v s h l = rw (drop-set a i v s h) (take-set-lt (e - a) (drop a s) (i - a) v (omega arith))
+
+getD-range : (a e i : ℕ) (s : List ℕ) → a ≤ i → i < e → getD (range a e s) (i - a) 0 ≡ getD s i 0
+unfolding range
+getD-range a e i s h l =
+    let back : a + (i - a) ≡ i = omega arith in
+    getD-take (e - a) (drop a s) (i - a) 0 (omega arith) ∙ getD-drop a s (i - a) 0 ∙ ap (λ (x : ℕ). getD s x 0) back
+
+-- one byte of the packet changed
+pub total-range-set : (a e i v : ℕ) (s : List ℕ) → e ≤ length s
+    → total (range a e (set s i v)) + share a e i * getD s i 0 ≡ total (range a e s) + share a e i * v
+total-range-set a e i v s h =
+    by-order i a
+    (λ l. rw (share-below a e i l, range-below a e i v s l) (omega arith))
+    (λ g.
+    by-order i e
+    (λ l.
+    rw (share-within a e i g l, range-within a e i v s g l, ← getD-range a e i s g l)
+    (total-set (range a e s) (i - a) v (omega (arith, length-range a e s h))))
+    (λ m. rw (share-above a e i m, range-above a e i v s g m) (omega arith)))
