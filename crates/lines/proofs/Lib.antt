@@ -1,0 +1,5 @@
+pub mod DecimalLaws
+pub mod InputLaws
+pub mod ReadLaws
+pub mod StoreLaws
+pub mod RecordLaws

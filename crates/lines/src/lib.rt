@@ -1,0 +1,187 @@
+// The listing program's line of input and lines of output.
+use base::Refusal;
+ghost use mathlib.Core.Path.{_≡_};
+ghost use mathlib.Core.List.{List, [], _∷_, _++_};
+ghost use Prim.Native.Nat.{ℕ, _+_, _*_, _<_, _≤_};
+ghost use lib.ListN.{length, drop};
+ghost use lib.Seq.{sets};
+ghost use Rattle.base.specs.Refusals.{number};
+ghost use Rattle.lines.specs.Decimal.{decimal};
+ghost use Rattle.lines.specs.Input.{read, readingOf, parseLine};
+ghost use Rattle.lines.specs.Text.{
+  spaced,
+  lineOf,
+  closingText,
+  positionsIn,
+  pageAnswer,
+  pageText,
+};
+
+// Generator, length in bits, limit and syndrome; or no such line.
+pub enum Line {
+    Numbers(u64, u64, u64, u64),
+    Bad,
+}
+
+// A number with the place after its closing byte; or none.
+pub enum Found {
+    Number(u64, usize),
+    Missing,
+}
+
+// What the program prints after the patterns, or instead of them.
+pub enum Closing {
+    End(u64),
+    Refused(Refusal),
+    BadLine,
+}
+
+// How many bytes of text were written; or the output is too short for the page.
+pub enum PageText {
+    Written(usize),
+    Short,
+}
+
+// One to nine digits from `from` on, and the byte `close`.
+fn field(input: &[u8], from: usize, close: u8) -> Found
+    ensures { λ r. ⌜ readingOf (now (input .entry)) r ≡ read close (drop from (now (input .entry))) ⌝ }
+{
+    if input.len() <= from {
+        return Found::Missing;
+    }
+    let first = input[from];
+    if first < 48 {
+        return Found::Missing;
+    }
+    if 57 < first {
+        return Found::Missing;
+    }
+    let mut value = (first - 48) as u64;
+    let mut at = from + 1;
+    let mut room: usize = 8;
+    while at < input.len() {
+        let c = input[at];
+        if c == close {
+            return Found::Number(value, at + 1);
+        }
+        if room == 0 {
+            return Found::Missing;
+        }
+        if c < 48 {
+            return Found::Missing;
+        }
+        if 57 < c {
+            return Found::Missing;
+        }
+        value = value * 10 + (c - 48) as u64;
+        at += 1;
+        room -= 1;
+    }
+    Found::Missing
+}
+
+// The whole input as one line.
+pub fn parse(input: &[u8]) -> Line
+    ensures { λ r. ⌜ r ≡ parseLine (now (input .entry)) ⌝ }
+{
+    let Found::Number(generator, second) = field(input, 0, b' ') else {
+        return Line::Bad;
+    };
+    let Found::Number(length, third) = field(input, second, b' ') else {
+        return Line::Bad;
+    };
+    let Found::Number(limit, fourth) = field(input, third, b' ') else {
+        return Line::Bad;
+    };
+    let Found::Number(syndrome, end) = field(input, fourth, b'\n') else {
+        return Line::Bad;
+    };
+    if end < input.len() {
+        return Line::Bad;
+    }
+    Line::Numbers(generator, length, limit, syndrome)
+}
+
+// Writes v in decimal from `to` on, and answers the place after it.
+fn decimal_at(v: u64, out: &mut [u8], to: usize) -> usize
+    requires { ⌜ to + length (decimal v) ≤ length (now out) ⌝ }
+    ensures { λ r. ⌜ (r ≡ to + length (decimal v)) × (now (out .exit) ≡ sets (now (out .entry)) to (decimal v)) ⌝ }
+{
+    if v < 10 {
+        out[to] = 48 + v as u8;
+        return to + 1;
+    }
+    let last = decimal_at(v / 10, out, to);
+    out[last] = 48 + (v % 10) as u8;
+    last + 1
+}
+
+// Writes `count` positions, which stand in the page from `at` on, each with a blank before it.
+fn positions_at(page: &[u8], at: usize, count: usize, out: &mut [u8], to: usize) -> usize
+    requires { ⌜ (at + 2 * count ≤ length (now page)) × (to + 6 * count ≤ length (now out)) ⌝ }
+    ensures { λ r. ⌜ (r ≡ to + length (spaced (positionsIn count (drop at (now (page .entry)))))) × ((r ≤ to + 6 * count) × (now (out .exit) ≡ sets (now (out .entry)) to (spaced (positionsIn count (drop at (now (page .entry))))))) ⌝ }
+{
+    let mut from = at;
+    let mut next = to;
+    let mut left = count;
+    while 0 < left {
+        let high = page[from] as u64;
+        let low = page[from + 1] as u64;
+        out[next] = b' ';
+        next = decimal_at(high * 256 + low, out, next + 1);
+        from += 2;
+        left -= 1;
+    }
+    next
+}
+
+// Writes the line of the pattern of `count` positions that stand in the page from `at` on.
+fn line_at(page: &[u8], at: usize, count: usize, out: &mut [u8], to: usize) -> usize
+    requires { ⌜ (count < 256) × ((at + 2 * count ≤ length (now page)) × (to + (4 + 6 * count) ≤ length (now out))) ⌝ }
+    ensures { λ r. ⌜ (r ≡ to + length (lineOf (positionsIn count (drop at (now (page .entry)))))) × ((r ≤ to + (4 + 6 * count)) × (now (out .exit) ≡ sets (now (out .entry)) to (lineOf (positionsIn count (drop at (now (page .entry))))))) ⌝ }
+{
+    let middle = decimal_at(count as u64, out, to);
+    let end = positions_at(page, at, count, out, middle);
+    out[end] = b'\n';
+    end + 1
+}
+
+// The records of a page as lines of text, up to the first record that is not whole.
+pub fn page_text(page: &[u8], out: &mut [u8]) -> PageText
+    ensures answer { λ r. ⌜ r ≡ pageAnswer (now (page .entry)) (length (now (out .entry))) ⌝ }
+    ensures bytes { λ _. ⌜ now (out .exit) ≡ pageText (now (page .entry)) (now (out .entry)) ⌝ }
+{
+    if out.len() / 4 < page.len() {
+        return PageText::Short;
+    }
+    let mut at = 0;
+    let mut to = 0;
+    while at < page.len() {
+        let count = page[at] as usize;
+        at += 1;
+        if page.len() - at < 2 * count {
+            return PageText::Written(to);
+        }
+        to = line_at(page, at, count, out, to);
+        at += 2 * count;
+    }
+    PageText::Written(to)
+}
+
+// The number of a refusal.
+fn number_of(refusal: Refusal) -> u64
+    ensures { λ r. ⌜ r ≡ number refusal ⌝ }
+{
+    match refusal {
+        Refusal::Generator => 1,
+        Refusal::Length => 2,
+        Refusal::Limit => 3,
+        Refusal::Syndrome => 4,
+        Refusal::TableLength => 5,
+        Refusal::TableEntry => 6,
+        Refusal::Mark => 7,
+        Refusal::Output => 8,
+        Refusal::Range => 9,
+        Refusal::Field => 10,
+    }
+}
