@@ -6,15 +6,18 @@ use mathlib.Core.List.{List, [], _∷_, _++_}
 use Prim.Native.Nat.{ℕ, zero, suc, _+_, _-_, _*_, _<_, _≤_}
 use native.Mathlib.Omega.{arith}
 use lib.Dec.{eqb, leb, ltb}
-use lib.ListN.{length}
+use lib.ListN.{length, drop, drop-of-length-le}
+use lib.Seq.{drop-cons}
 use borrow.Author.Tests.{lt-ltb, le-ltb, le-leb, lt-leb, eq-eqb, ne-eqb, eqb-true, leb-true, ltb-true}
 use Rattle.base.specs.Outcome.{pick}
 use Rattle.base.specs.Lists.{All, none, each}
 use Rattle.base.proofs.Cases.{by-test, by-order}
 use Rattle.lines.specs.declared.Line.{Line}
 use Rattle.lines.specs.declared.Line.the-variants.{Numbers, Bad}
+use Rattle.lines.specs.declared.Found.{Found}
+use Rattle.lines.specs.declared.Found.the-variants.{Number, Missing}
 use Rattle.lines.specs.Decimal.{Digit, isDigit, valueFrom, valueOf}
-use Rattle.lines.specs.Input.{Digits, IsLine, line, Reading, number, missing, readFrom, read, behind, whole, parseLine}
+use Rattle.lines.specs.Input.{Digits, IsLine, line, Reading, number, missing, readFrom, read, behind, whole, parseLine, readingOf}
 
 digit-true : (c : ℕ) → Digit c → isDigit c ≡ true
 digit-true c h = simp (le-leb 48 c (h .0), lt-ltb c 58 (h .1))
@@ -201,3 +204,41 @@ parsed-line input g l n s e =
 -- the line form is exactly what is read as four numbers
 pub parse-exact : (input : List ℕ) (g l n s : ℕ) → (parseLine input ≡ Numbers g l n s) ↔ IsLine input g l n s
 parse-exact input g l n s = (parsed-line input g l n s, line-parsed input g l n s)
+
+-- what a call of `field` says of a reading, by the case that it answers
+pub found-number : (input : List ℕ) {r : Found} {v next : ℕ} {x : Reading} → readingOf input r ≡ x → r ≡ Number v next → x ≡ number v (drop next input)
+found-number input e f = sym e ∙ ap (readingOf input) f
+
+pub found-missing : (input : List ℕ) {r : Found} {x : Reading} → readingOf input r ≡ x → r ≡ Missing → x ≡ missing
+found-missing input e f = sym e ∙ ap (readingOf input) f
+
+-- the way of a line through its four numbers, up to the first that is missing
+module _ (input : List ℕ) where
+  pub parse-none : read 32 input ≡ missing → Bad ≡ parseLine input
+  unfolding parseLine
+  parse-none e = rw e
+
+  module _ {g : ℕ} {a : List ℕ} (ea : read 32 input ≡ number g a) where
+    pub parse-one : read 32 a ≡ missing → Bad ≡ parseLine input
+    unfolding parseLine
+    parse-one e = rw (ea, e)
+
+    module _ {l : ℕ} {b : List ℕ} (eb : read 32 a ≡ number l b) where
+      pub parse-two : read 32 b ≡ missing → Bad ≡ parseLine input
+      unfolding parseLine
+      parse-two e = rw (ea, eb, e)
+
+      module _ {n : ℕ} {c : List ℕ} (ec : read 32 b ≡ number n c) where
+        pub parse-three : read 10 c ≡ missing → Bad ≡ parseLine input
+        unfolding parseLine
+        parse-three e = rw (ea, eb, ec, e)
+
+        pub parse-four : {s : ℕ} {d : List ℕ} → read 10 c ≡ number s d → whole g l n s d ≡ parseLine input
+        unfolding parseLine
+        parse-four e = rw (ea, eb, ec, e)
+
+pub whole-past : (g l n s : ℕ) (text : List ℕ) (at : ℕ) → length text ≤ at → Numbers g l n s ≡ whole g l n s (drop at text)
+whole-past g l n s text at h = rw (drop-of-length-le text h)
+
+pub whole-more : (g l n s : ℕ) (text : List ℕ) (at : ℕ) → at < length text → Bad ≡ whole g l n s (drop at text)
+whole-more g l n s text at h = rw (drop-cons text at 0 h)

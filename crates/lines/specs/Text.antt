@@ -1,8 +1,10 @@
 -- The listing program's output: a line for each pattern, and a closing line.
+use mathlib.Core.Path.{_≡_}
 use Prim.Native.Nat.{ℕ, zero, suc, _+_, _*_}
 use mathlib.Core.List.{List, [], _∷_, _++_}
 use lib.Dec.{leb}
 use lib.ListN.{length, getD, drop}
+use lib.Seq.{sets}
 use Rattle.base.specs.Outcome.{pick}
 use Rattle.base.specs.Refusals.{number}
 use Rattle.lines.specs.declared.Closing.{Closing}
@@ -31,6 +33,11 @@ closingText (End k) = 101 ∷ 110 ∷ 100 ∷ 32 ∷ decimal k ++ (10 ∷ [])
 closingText (Refused r) =
     114 ∷ 101 ∷ 102 ∷ 117 ∷ 115 ∷ 101 ∷ 100 ∷ 32 ∷ decimal (number r) ++ (10 ∷ [])
 closingText BadLine = 98 ∷ 97 ∷ 100 ∷ 32 ∷ 108 ∷ 105 ∷ 110 ∷ 101 ∷ 10 ∷ []
+
+-- a text was stored in `out` from `to` on, which made it `after`; `next` is the place behind the text
+pub record Stored (out : List ℕ) (to : ℕ) (text : List ℕ) (next : ℕ) (after : List ℕ) : Type 0 where
+  pub place : next ≡ to + length text
+  pub bytes : after ≡ sets out to text
 
 -- so many positions of two bytes each, high byte first
 unfoldable pub positionsIn : ℕ → List ℕ → List ℕ

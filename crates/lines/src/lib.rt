@@ -4,7 +4,6 @@ ghost use mathlib.Core.Path.{_≡_};
 ghost use mathlib.Core.List.{List, [], _∷_, _++_};
 ghost use Prim.Native.Nat.{ℕ, _+_, _*_, _<_, _≤_};
 ghost use lib.ListN.{length, drop};
-ghost use lib.Seq.{sets};
 ghost use Rattle.base.specs.Refusals.{number};
 ghost use Rattle.lines.specs.Decimal.{decimal};
 ghost use Rattle.lines.specs.Input.{read, readingOf, parseLine};
@@ -12,6 +11,7 @@ ghost use Rattle.lines.specs.Text.{
   spaced,
   lineOf,
   closingText,
+  Stored,
   positionsIn,
   pageAnswer,
   pageText,
@@ -105,7 +105,7 @@ pub fn parse(input: &[u8]) -> Line
 // Writes v in decimal from `to` on, and answers the place after it.
 fn decimal_at(v: u64, out: &mut [u8], to: usize) -> usize
     requires { ⌜ to + length (decimal v) ≤ length (now out) ⌝ }
-    ensures { λ r. ⌜ (r ≡ to + length (decimal v)) × (now (out .exit) ≡ sets (now (out .entry)) to (decimal v)) ⌝ }
+    ensures { λ r. ⌜ Stored (now (out .entry)) to (decimal v) r (now (out .exit)) ⌝ }
 {
     if v < 10 {
         out[to] = 48 + v as u8;
@@ -119,7 +119,8 @@ fn decimal_at(v: u64, out: &mut [u8], to: usize) -> usize
 // Writes `count` positions, which stand in the page from `at` on, each with a blank before it.
 fn positions_at(page: &[u8], at: usize, count: usize, out: &mut [u8], to: usize) -> usize
     requires { ⌜ (at + 2 * count ≤ length (now page)) × (to + 6 * count ≤ length (now out)) ⌝ }
-    ensures { λ r. ⌜ (r ≡ to + length (spaced (positionsIn count (drop at (now (page .entry)))))) × ((r ≤ to + 6 * count) × (now (out .exit) ≡ sets (now (out .entry)) to (spaced (positionsIn count (drop at (now (page .entry))))))) ⌝ }
+    ensures text { λ r. ⌜ Stored (now (out .entry)) to (spaced (positionsIn count (drop at (now (page .entry))))) r (now (out .exit)) ⌝ }
+    ensures short { λ r. ⌜ r ≤ to + 6 * count ⌝ }
 {
     let mut from = at;
     let mut next = to;
@@ -137,8 +138,9 @@ fn positions_at(page: &[u8], at: usize, count: usize, out: &mut [u8], to: usize)
 
 // Writes the line of the pattern of `count` positions that stand in the page from `at` on.
 fn line_at(page: &[u8], at: usize, count: usize, out: &mut [u8], to: usize) -> usize
-    requires { ⌜ (count < 256) × ((at + 2 * count ≤ length (now page)) × (to + (4 + 6 * count) ≤ length (now out))) ⌝ }
-    ensures { λ r. ⌜ (r ≡ to + length (lineOf (positionsIn count (drop at (now (page .entry)))))) × ((r ≤ to + (4 + 6 * count)) × (now (out .exit) ≡ sets (now (out .entry)) to (lineOf (positionsIn count (drop at (now (page .entry))))))) ⌝ }
+    requires { ⌜ (count < 256) × (at + 2 * count ≤ length (now page)) × (to + (4 + 6 * count) ≤ length (now out)) ⌝ }
+    ensures text { λ r. ⌜ Stored (now (out .entry)) to (lineOf (positionsIn count (drop at (now (page .entry))))) r (now (out .exit)) ⌝ }
+    ensures short { λ r. ⌜ r ≤ to + (4 + 6 * count) ⌝ }
 {
     let middle = decimal_at(count as u64, out, to);
     let end = positions_at(page, at, count, out, middle);

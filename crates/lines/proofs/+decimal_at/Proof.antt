@@ -46,7 +46,9 @@ decimal-at-slice-write-out : (t : ℕ) → decimal-at-lts.Need-slice-write-out (
   decimal-at-below t,
   decimal-at.Post,
 ) (decimal-at-at t) decimal-at.Post
-decimal-at-slice-write-out t c = omega (arith, length-small (c .before .before .args .v) (c .before .before .args .out .now) (c .before .before .args .to) (c .if1 .taken))
+decimal-at-slice-write-out t c =
+    let a = c .before .before .args in
+    omega (arith, length-small (a .v) (a .out .now) (a .to) (c .if1 .taken))
 
 decimal-at-add-result : (t : ℕ) → decimal-at-lts.Need-add-result (
   decimal-at-below t,
@@ -67,14 +69,19 @@ decimal-at-returns :
     (decimal-at-at t)
     decimal-at.Post
 decimal-at-returns t c =
-    (omega (arith, length-small (c .before .before .args .v) (c .before .before .args .out .now) (c .before .before .args .to) (c .if1 .taken)), store-small (c .before .before .args .v) (c .before .before .args .out .now) (c .before .before .args .to) (c .if1 .taken))
+    let a = c .before .before .args in
+    record {
+      place = omega (arith, length-small (a .v) (a .out .now) (a .to) (c .if1 .taken));
+      bytes = store-small (a .v) (a .out .now) (a .to) (c .if1 .taken);
+    }
 
 decimal-at-decimal-at-requires : (t : ℕ) → decimal-at-lts.Need-decimal-at-requires (
   decimal-at-below t,
   decimal-at.Post,
 ) (decimal-at-at t) decimal-at.Post
 decimal-at-decimal-at-requires t c κs =
-    (omega arith, omega (arith, length-step (c .before .before .before .args .v) (c .before .before .before .args .out .now) (c .before .before .before .args .to) (c .before .if1 .left)))
+    let a = c .before .before .before .args in
+    (omega arith, omega (arith, length-step (a .v) (a .out .now) (a .to) (c .before .if1 .left)))
 
 decimal-at-cast-out-2 : (t : ℕ) → decimal-at-lts.Need-cast-out-2 (
   decimal-at-below t,
@@ -93,13 +100,24 @@ decimal-at-slice-write-out-2 : (t : ℕ) → decimal-at-lts.Need-slice-write-out
   decimal-at.Post,
 ) (decimal-at-at t) decimal-at.Post
 decimal-at-slice-write-out-2 t c =
-    omega (arith, length-step (c .before .before .before .before .before .before .args .v) (c .before .before .before .before .before .before .args .out .now) (c .before .before .before .before .before .before .args .to) (c .before .before .before .before .if1 .left), c .before .before .decimal-at .ensures .0, simp length-sets at (ap length (c .before .before .decimal-at .ensures .1)))
+    let d = c .before .before in
+    let a = d .before .before .before .before .args in
+    let h = d .before .before .if1 .left in
+    omega
+    (arith,
+    length-step (a .v) (a .out .now) (a .to) h,
+    d .decimal-at .ensures .place,
+    simp length-sets at (ap length (d .decimal-at .ensures .bytes)))
 
 decimal-at-add-result-2 : (t : ℕ) → decimal-at-lts.Need-add-result-2 (
   decimal-at-below t,
   decimal-at.Post,
 ) (decimal-at-at t) decimal-at.Post
-decimal-at-add-result-2 t c = record { fits = omega (arith, length-step (c .before .before .before .before .before .before .args .v) (c .before .before .before .before .before .before .args .out .now) (c .before .before .before .before .before .before .args .to) (c .before .before .before .before .if1 .left), c .before .before .decimal-at .ensures .0) }
+decimal-at-add-result-2 t c =
+    let d = c .before .before in
+    let a = d .before .before .before .before .args in
+    let h = d .before .before .if1 .left in
+    record { fits = omega (arith, length-step (a .v) (a .out .now) (a .to) h, d .decimal-at .ensures .place) }
 
 decimal-at-same-length-2 : (t : ℕ) → decimal-at-lts.Need-same-length-2 (
   decimal-at-below t,
@@ -112,11 +130,15 @@ decimal-at-returns-2 : (t : ℕ) → decimal-at-lts.Need-returns-2 (
   decimal-at.Post,
 ) (decimal-at-at t) decimal-at.Post
 decimal-at-returns-2 t c =
-    (
-      omega (arith, length-step (c .before .before .before .before .before .before .args .v) (c .before .before .before .before .before .before .args .out .now) (c .before .before .before .before .before .before .args .to) (c .before .before .before .before .if1 .left), c .before .before .decimal-at .ensures .0),
-      ap (λ (l : List ℕ). set l (c .before .before .decimal-at .result) (48 + c .before .before .before .before .before .before .args .v % 10)) (c .before .before .decimal-at .ensures .1)
-      ∙ store-step (c .before .before .before .before .before .before .args .v) (c .before .before .before .before .before .before .args .out .now) (c .before .before .before .before .before .before .args .to) (c .before .before .decimal-at .result) (c .before .before .before .before .if1 .left) (c .before .before .decimal-at .ensures .0),
-    )
+    let d = c .before .before in
+    let a = d .before .before .before .before .args in
+    let h = d .before .before .if1 .left in
+    record {
+      place = omega (arith, length-step (a .v) (a .out .now) (a .to) h, d .decimal-at .ensures .place);
+      bytes =
+        ap (λ (l : List ℕ). set l (d .decimal-at .result) (48 + a .v % 10)) (d .decimal-at .ensures .bytes)
+        ∙ store-step (a .v) (a .out .now) (a .to) (d .decimal-at .result) h (d .decimal-at .ensures .place);
+    }
 
 pub +decimal-at-spec : {M : Type 1} → statement M
 +decimal-at-spec = close μ-decimal-at λ t. decimal-at-lts.spec (
