@@ -1,4 +1,14 @@
+-- `page_text` writes a page's lines. Invariant: what is stored, with the text of the records left, is the whole text, and
+-- there are four bytes of room for each byte left of the page.
+use mathlib.Core.Path.{_≡_, refl, sym, ap, _∙_}
+use mathlib.Core.List.{List, [], _∷_, _++_}
+use Prim.Native.Nat.{ℕ, _+_, _-_, _*_, _<_, _≤_}
 use borrow.Author.Needs.{needs}
+use lib.ListN.{length, getD, drop}
+use Rattle.lines.specs.Text.{lineOf, textOf, positionsIn, patternsIn}
+use Rattle.lines.proofs.PageLaws.{page-short, page-written}
+use Rattle.lines.proofs.RecordLaws.{text-past, text-cut, text-step}
+use Rattle.lines.proofs.WritingLaws.{Writing, writing-start, writing-part}
 use native.Mathlib.Omega.{arith}
 use Rattle.lines.proofs.page_text.Statement.{statement}
 use Rattle.lines.proofs.page_text.Tie as tie
@@ -7,74 +17,90 @@ use Rattle.lines.proofs.page_text.Lts as lts
 use Rattle.lines.proofs.line_at.Reads as line-at-reads
 
 abbrev Inv-loop : tie.InvT-loop
-Inv-loop page out₀ at₀ to₀ out at to = ?
+Inv-loop page out₀ at₀ to₀ out at to =
+    (at ≤ length page) × (to + 4 * (length page - at) ≤ length out₀)
+    × Writing out₀ 0 (textOf (patternsIn page)) out to (textOf (patternsIn (drop at page)))
 
 abbrev μ-loop : tie.MeasureT-loop
-μ-loop page out₀ at₀ to₀ out at to = ?
+μ-loop page out₀ at₀ to₀ out at to = length page - at
 
--- src/lib.rt:157:9
 returns : tie.Need-returns Inv-loop μ-loop
-returns c = ?
+returns c =
+    let a = c .before .before .before .args in
+    page-short (a .page .now) (a .out .now) (c .if1 .taken)
 
--- src/lib.rt:161:5
 loop-holds : tie.Need-loop-holds Inv-loop μ-loop
-loop-holds c = ?
+loop-holds c =
+    let a = c .before .before .before .args in
+    (omega arith, omega arith, writing-start (a .out .now) 0 (textOf (patternsIn (a .page .now))))
 
--- src/lib.rt:162:21
 shared-slice-read-count : tie.Need-shared-slice-read-count Inv-loop μ-loop
-shared-slice-read-count c = ?
+shared-slice-read-count c = search needs
 
--- src/lib.rt:162:21
 cast-count : tie.Need-cast-count Inv-loop μ-loop
-cast-count c = ?
+cast-count c = omega (arith, c .shared-slice-known2 .given (c .before .before .loop .at))
 
--- src/lib.rt:163:9
 add-at : tie.Need-add-at Inv-loop μ-loop
-add-at c = ?
+add-at c = search needs
 
--- src/lib.rt:164:12
 sub-if2 : tie.Need-sub-if2 Inv-loop μ-loop
-sub-if2 c = ?
+sub-if2 c = search needs
 
--- src/lib.rt:164:30
 mul-if2 : tie.Need-mul-if2 Inv-loop μ-loop
-mul-if2 c = ?
+mul-if2 c = record { fits = omega (arith, c .shared-slice-known2 .given (c .before .before .loop .at)) }
 
--- src/lib.rt:165:13
 same-length : tie.Need-same-length Inv-loop μ-loop
-same-length c = ?
+same-length c = c .before .before .before .loop .inv .2 .size
 
--- src/lib.rt:165:13
 returns-2 : tie.Need-returns-2 Inv-loop μ-loop
-returns-2 c = ?
+returns-2 c =
+    let p = c .before .before .before in
+    let a = p .before .before .before .before .args in
+    page-written (a .page .now) (a .out .now) (p .loop .out) (p .loop .to) (p .before .if1 .left) (omega arith)
+    (rw (text-cut (a .page .now) (p .loop .at) (getD (a .page .now) (p .loop .at) 0) refl (c .before .before .loop-test .taken) (c .if2 .taken)) at (p .loop .inv .2))
 
--- src/lib.rt:167:9
 line-at-requires : tie.Need-line-at-requires Inv-loop μ-loop
-line-at-requires c κs = ?
+line-at-requires c κs =
+    let k = c .before .before in
+    let p = k .before .before in
+    (
+      omega (arith, k .shared-slice-known2 .given (p .loop .at)),
+      omega arith,
+      omega (arith, p .loop .inv .2 .size),
+    )
 
--- src/lib.rt:168:15
 mul-at : tie.Need-mul-at Inv-loop μ-loop
-mul-at c = ?
+mul-at c = search needs
 
--- src/lib.rt:168:9
 add-at-2 : tie.Need-add-at-2 Inv-loop μ-loop
-add-at-2 c = ?
+add-at-2 c = search needs
 
--- src/lib.rt:161:5
 loop-less : tie.Need-loop-less Inv-loop μ-loop
-loop-less c = ?
+loop-less c = search needs
 
--- src/lib.rt:161:5
 loop-again : tie.Need-loop-again Inv-loop μ-loop
-loop-again c = ?
+loop-again c =
+    let q = c .before .before in
+    let p = q .before .before .before .before .before in
+    let page = p .before .before .before .before .args .page .now in
+    let k = getD page (p .loop .at) 0 in
+    (
+      omega arith,
+      omega (arith, q .line-at .ensures .1),
+      writing-part (lineOf (positionsIn k (drop (p .loop .at + 1) page))) _
+      (rw (text-step page (p .loop .at) k refl (q .before .before .before .before .loop-test .taken) (q .before .before .if2 .left)) at (p .loop .inv .2))
+      _ _ (q .line-at .ensures .0 .bytes) (q .line-at .ensures .0 .place),
+    )
 
--- src/lib.rt:152:1
 same-length-2 : tie.Need-same-length-2 Inv-loop μ-loop
-same-length-2 c = ?
+same-length-2 c = c .before .loop .inv .2 .size
 
--- src/lib.rt:152:1
 returns-3 : tie.Need-returns-3 Inv-loop μ-loop
-returns-3 c = ?
+returns-3 c =
+    let p = c .before in
+    let a = p .before .before .before .before .args in
+    page-written (a .page .now) (a .out .now) (p .loop .out) (p .loop .to) (p .before .if1 .left) (omega arith)
+    (rw (text-past (a .page .now) (p .loop .at) (c .loop-test .left)) at (p .loop .inv .2))
 
 pub page-text-spec : {M : Type 1} → statement M
 page-text-spec =
