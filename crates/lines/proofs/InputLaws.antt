@@ -183,23 +183,27 @@ pub line-parsed : (input : List ℕ) (g l n s : ℕ) → IsLine input g l n s �
 unfolding parseLine
 line-parsed input g l n s (line {a} {b} {c} {d} ha hb hc hd e) =
     rw e
-    (simp
-    (read-text 32 blank-no-digit ha (b ++ (32 ∷ c ++ (32 ∷ d ++ (10 ∷ [])))),
-    read-text 32 blank-no-digit hb (c ++ (32 ∷ d ++ (10 ∷ []))),
-    read-text 32 blank-no-digit hc (d ++ (10 ∷ [])),
-    read-text 10 feed-no-digit hd []))
+    (simp (
+      read-text 32 blank-no-digit ha (b ++ (32 ∷ c ++ (32 ∷ d ++ (10 ∷ [])))),
+      read-text 32 blank-no-digit hb (c ++ (32 ∷ d ++ (10 ∷ []))),
+      read-text 32 blank-no-digit hc (d ++ (10 ∷ [])),
+      read-text 10 feed-no-digit hd [],
+    ))
 
 pub parsed-line : (input : List ℕ) (g l n s : ℕ) → parseLine input ≡ Numbers g l n s → IsLine input g l n s
 unfolding parseLine
 parsed-line input g l n s e =
-    elim (behind-step 32 input first g l n s e)
-    [ step {v = g′} {rest = r} ha ta e ↦
-    elim (behind-step 32 r (second g′) g l n s e)
-    [ step {v = l′} {rest = r} hb tb e ↦
-    elim (behind-step 32 r (third g′ l′) g l n s e)
-    [ step {v = n′} {rest = r} hc tc e ↦
-    elim (behind-step 10 r (fourth g′ l′ n′) g l n s e)
-    [ step {v = s′} {rest = r} hd td e ↦ rw (ta, tb, tc, td) (last-step g′ l′ n′ s′ r g l n s ha hb hc hd e) ] ] ] ]
+    elim (behind-step 32 input first g l n s e) [
+      | step {v = g′} {rest = r} ha ta e ↦
+          elim (behind-step 32 r (second g′) g l n s e) [
+            | step {v = l′} {rest = r} hb tb e ↦
+                elim (behind-step 32 r (third g′ l′) g l n s e) [
+                  | step {v = n′} {rest = r} hc tc e ↦
+                      elim (behind-step 10 r (fourth g′ l′ n′) g l n s e)
+                      [ step {v = s′} {rest = r} hd td e ↦ rw (ta, tb, tc, td) (last-step g′ l′ n′ s′ r g l n s ha hb hc hd e) ]
+                ]
+          ]
+    ]
 
 -- the line form is exactly what is read as four numbers
 pub parse-exact : (input : List ℕ) (g l n s : ℕ) → (parseLine input ≡ Numbers g l n s) ↔ IsLine input g l n s

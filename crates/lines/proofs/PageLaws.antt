@@ -22,8 +22,7 @@ module _ (page out : List ℕ) where
       → (Written to ≡ pageAnswer page (length out)) × (after ≡ pageText page out)
   page-written after to h l w =
       let f : 4 * length page ≤ length out = omega arith in
-      let e : to ≡ length (textOf (patternsIn page)) = omega (arith, w .place) in
-      (
+      let e : to ≡ length (textOf (patternsIn page)) = omega (arith, w .place) in (
         rw (le-leb (4 * length page) (length out) f) (ap Written e),
         rw (le-leb (4 * length page) (length out) f) (w .bytes ∙ sets-start (textOf (patternsIn page)) out (omega arith)),
       )

@@ -109,8 +109,9 @@ patterns-records none = patterns-none
 patterns-records (each {x = ps} {xs = xs} h hs) =
     let m : 2 * length ps ≤ length (places ps ++ records xs) = simp (length-append, length-places) (omega arith) in
     patterns-cons (length ps) (places ps ++ records xs)
-    ∙ rw
-    (le-leb (2 * length ps) (length (places ps ++ records xs)) m,
-    positions-places h (records xs),
-    drop-at (places ps) (records xs) (2 * length ps) (length-places ps))
+    ∙ rw (
+      le-leb (2 * length ps) (length (places ps ++ records xs)) m,
+      positions-places h (records xs),
+      drop-at (places ps) (records xs) (2 * length ps) (length-places ps),
+    )
     (ap (λ (qs : List (List ℕ)). ps ∷ qs) (patterns-records hs))

@@ -35,3 +35,12 @@ module _ {out₀ : List ℕ} {to : ℕ} {whole out : List ℕ} {next : ℕ} wher
 
   pub writing-stored : Writing out₀ to whole out next [] → Stored out₀ to whole next out
   writing-stored w = record { place = omega (arith, w .place); bytes = w .bytes }
+
+-- a text stored behind a word that was stored is both, joined
+pub stored-behind : (word text out : List ℕ) (to next : ℕ) (after : List ℕ)
+    → Stored (sets out to word) (to + length word) text next after → Stored out to (word ++ text) next after
+stored-behind word text out to next after h =
+    record {
+      place = omega (arith, h .place, length-append word text);
+      bytes = h .bytes ∙ sym (sets-append word text out to);
+    }

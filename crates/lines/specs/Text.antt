@@ -6,9 +6,6 @@ use lib.Dec.{leb}
 use lib.ListN.{length, getD, drop}
 use lib.Seq.{sets}
 use Rattle.base.specs.Outcome.{pick}
-use Rattle.base.specs.Refusals.{number}
-use Rattle.lines.specs.declared.Closing.{Closing}
-use Rattle.lines.specs.declared.Closing.the-variants.{End, Refused, BadLine}
 use Rattle.lines.specs.declared.PageText.{PageText}
 use Rattle.lines.specs.declared.PageText.the-variants.{Written, Short}
 use Rattle.lines.specs.Decimal.{decimal}
@@ -27,12 +24,17 @@ unfoldable pub textOf : List (List ℕ) → List ℕ
 textOf [] = []
 textOf (p ∷ ps) = lineOf p ++ textOf ps
 
--- "end K", "refused K" with the number of the condition, "bad line", each with its line feed
-abbrev pub closingText : Closing → List ℕ
-closingText (End k) = 101 ∷ 110 ∷ 100 ∷ 32 ∷ decimal k ++ (10 ∷ [])
-closingText (Refused r) =
-    114 ∷ 101 ∷ 102 ∷ 117 ∷ 115 ∷ 101 ∷ 100 ∷ 32 ∷ decimal (number r) ++ (10 ∷ [])
-closingText BadLine = 98 ∷ 97 ∷ 100 ∷ 32 ∷ 108 ∷ 105 ∷ 110 ∷ 101 ∷ 10 ∷ []
+-- "end K": the line that closes a list of k patterns
+unfoldable pub endLine : ℕ → List ℕ
+endLine k = 101 ∷ 110 ∷ 100 ∷ 32 ∷ decimal k ++ (10 ∷ [])
+
+-- "refused K": the line of the condition with number k
+unfoldable pub refusedLine : ℕ → List ℕ
+refusedLine k = 114 ∷ 101 ∷ 102 ∷ 117 ∷ 115 ∷ 101 ∷ 100 ∷ 32 ∷ decimal k ++ (10 ∷ [])
+
+-- "bad line": for any other input
+unfoldable pub badLine : List ℕ
+badLine = 98 ∷ 97 ∷ 100 ∷ 32 ∷ 108 ∷ 105 ∷ 110 ∷ 101 ∷ 10 ∷ []
 
 -- a text was stored in `out` from `to` on, which made it `after`; `next` is the place behind the text
 pub record Stored (out : List ℕ) (to : ℕ) (text : List ℕ) (next : ℕ) (after : List ℕ) : Type 0 where

@@ -10,7 +10,9 @@ ghost use Rattle.lines.specs.Input.{read, readingOf, parseLine};
 ghost use Rattle.lines.specs.Text.{
   spaced,
   lineOf,
-  closingText,
+  endLine,
+  refusedLine,
+  badLine,
   Stored,
   positionsIn,
   pageAnswer,
@@ -27,13 +29,6 @@ pub enum Line {
 pub enum Found {
     Number(u64, usize),
     Missing,
-}
-
-// What the program prints after the patterns, or instead of them.
-pub enum Closing {
-    End(u64),
-    Refused(Refusal),
-    BadLine,
 }
 
 // How many bytes of text were written; or the output is too short for the page.
@@ -186,4 +181,61 @@ fn number_of(refusal: Refusal) -> u64
         Refusal::Range => 9,
         Refusal::Field => 10,
     }
+}
+
+// Writes v in decimal and a line feed from `to` on, and answers the place after it.
+fn number_line_at(v: u64, out: &mut [u8], to: usize) -> usize
+    requires { ⌜ to + 21 ≤ length (now out) ⌝ }
+    ensures text { λ r. ⌜ Stored (now (out .entry)) to (decimal v ++ (10 ∷ [])) r (now (out .exit)) ⌝ }
+    ensures short { λ r. ⌜ r ≤ to + 21 ⌝ }
+{
+    let end = decimal_at(v, out, to);
+    out[end] = b'\n';
+    end + 1
+}
+
+// Writes the line that closes a list of `count` patterns, and answers its length.
+pub fn end_line(count: u64, out: &mut [u8; 32]) -> usize
+    ensures text { λ r. ⌜ Stored (now (out .entry)) 0 (endLine count) r (now (out .exit)) ⌝ }
+    ensures short { λ r. ⌜ r ≤ 32 ⌝ }
+{
+    out[0] = b'e';
+    out[1] = b'n';
+    out[2] = b'd';
+    out[3] = b' ';
+    number_line_at(count, out, 4)
+}
+
+// Writes the line of a refusal, and answers its length.
+pub fn refused_line(refusal: Refusal, out: &mut [u8; 32]) -> usize
+    ensures text { λ r. ⌜ Stored (now (out .entry)) 0 (refusedLine (number refusal)) r (now (out .exit)) ⌝ }
+    ensures short { λ r. ⌜ r ≤ 32 ⌝ }
+{
+    let k = number_of(refusal);
+    out[0] = b'r';
+    out[1] = b'e';
+    out[2] = b'f';
+    out[3] = b'u';
+    out[4] = b's';
+    out[5] = b'e';
+    out[6] = b'd';
+    out[7] = b' ';
+    number_line_at(k, out, 8)
+}
+
+// Writes the line for any other input, and answers its length.
+pub fn bad_line(out: &mut [u8; 32]) -> usize
+    ensures text { λ r. ⌜ Stored (now (out .entry)) 0 badLine r (now (out .exit)) ⌝ }
+    ensures short { λ r. ⌜ r ≤ 32 ⌝ }
+{
+    out[0] = b'b';
+    out[1] = b'a';
+    out[2] = b'd';
+    out[3] = b' ';
+    out[4] = b'l';
+    out[5] = b'i';
+    out[6] = b'n';
+    out[7] = b'e';
+    out[8] = b'\n';
+    9
 }

@@ -103,11 +103,12 @@ decimal-at-slice-write-out-2 t c =
     let d = c .before .before in
     let a = d .before .before .before .before .args in
     let h = d .before .before .if1 .left in
-    omega
-    (arith,
-    length-step (a .v) (a .out .now) (a .to) h,
-    d .decimal-at .ensures .place,
-    simp length-sets at (ap length (d .decimal-at .ensures .bytes)))
+    omega (
+      arith,
+      length-step (a .v) (a .out .now) (a .to) h,
+      d .decimal-at .ensures .place,
+      simp length-sets at (ap length (d .decimal-at .ensures .bytes)),
+    )
 
 decimal-at-add-result-2 : (t : ℕ) → decimal-at-lts.Need-add-result-2 (
   decimal-at-below t,
@@ -136,8 +137,8 @@ decimal-at-returns-2 t c =
     record {
       place = omega (arith, length-step (a .v) (a .out .now) (a .to) h, d .decimal-at .ensures .place);
       bytes =
-        ap (λ (l : List ℕ). set l (d .decimal-at .result) (48 + a .v % 10)) (d .decimal-at .ensures .bytes)
-        ∙ store-step (a .v) (a .out .now) (a .to) (d .decimal-at .result) h (d .decimal-at .ensures .place);
+          ap (λ (l : List ℕ). set l (d .decimal-at .result) (48 + a .v % 10)) (d .decimal-at .ensures .bytes)
+          ∙ store-step (a .v) (a .out .now) (a .to) (d .decimal-at .result) h (d .decimal-at .ensures .place);
     }
 
 pub +decimal-at-spec : {M : Type 1} → statement M

@@ -82,12 +82,11 @@ loop-less : tie.Need-loop-less Inv-loop μ-loop
 loop-less c = search needs
 
 loop-again : tie.Need-loop-again Inv-loop μ-loop
-loop-again c =
-    (
-      omega arith,
-      value-more (c .before .before .before .before .before .before .loop .room) (c .before .before .before .before .before .before .loop .value) _ (search needs) (c .before .before .before .before .before .before .loop .inv .0) (c .before .before .before .before .before .before .loop .inv .1) (search needs),
-      sym (readFrom-digit-at (c .before .before .before .before .before .before .before .before .before .before .before .args .close) (c .before .before .before .before .before .before .before .before .before .before .before .args .input .now) (c .before .before .before .before .before .before .loop .at) (c .before .before .before .before .before .loop-test .taken) (c .before .before .before .before .before .before .loop .room) (c .before .before .before .before .before .before .loop .value) (c .before .before .before .if4 .left) (search needs) (search needs)) ∙ c .before .before .before .before .before .before .loop .inv .2,
-    )
+loop-again c = (
+  omega arith,
+  value-more (c .before .before .before .before .before .before .loop .room) (c .before .before .before .before .before .before .loop .value) _ (search needs) (c .before .before .before .before .before .before .loop .inv .0) (c .before .before .before .before .before .before .loop .inv .1) (search needs),
+  sym (readFrom-digit-at (c .before .before .before .before .before .before .before .before .before .before .before .args .close) (c .before .before .before .before .before .before .before .before .before .before .before .args .input .now) (c .before .before .before .before .before .before .loop .at) (c .before .before .before .before .before .loop-test .taken) (c .before .before .before .before .before .before .loop .room) (c .before .before .before .before .before .before .loop .value) (c .before .before .before .if4 .left) (search needs) (search needs)) ∙ c .before .before .before .before .before .before .loop .inv .2,
+)
 
 returns-8 : tie.Need-returns-8 Inv-loop μ-loop
 returns-8 c =

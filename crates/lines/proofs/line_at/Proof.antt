@@ -40,14 +40,14 @@ decimal-at-requires c κs =
 positions-at-requires : tie.Need-positions-at-requires
 positions-at-requires c κs =
     let d = c .before .before .before in
-    let s = d .before .before .before .before in
-    (
+    let s = d .before .before .before .before in (
       s .pre .1,
-      omega
-      (arith,
-      three (s .args .count) (s .pre .0),
-      d .decimal-at .ensures .place,
-      simp length-sets at (ap length (d .decimal-at .ensures .bytes))),
+      omega (
+        arith,
+        three (s .args .count) (s .pre .0),
+        d .decimal-at .ensures .place,
+        simp length-sets at (ap length (d .decimal-at .ensures .bytes)),
+      ),
     )
 
 slice-write-out : tie.Need-slice-write-out
@@ -55,12 +55,13 @@ slice-write-out c =
     let p = c .before .before in
     let d = p .before .before .before .before in
     let s = d .before .before .before .before in
-    omega
-    (arith,
-    three (s .args .count) (s .pre .0),
-    d .decimal-at .ensures .place,
-    p .positions-at .ensures .1,
-    written p .size)
+    omega (
+      arith,
+      three (s .args .count) (s .pre .0),
+      d .decimal-at .ensures .place,
+      p .positions-at .ensures .1,
+      written p .size,
+    )
 
 add-result : tie.Need-add-result
 add-result c =
@@ -77,8 +78,7 @@ returns c =
     let p = c .before .before in
     let d = p .before .before .before .before in
     let s = d .before .before .before .before in
-    let a = s .args in
-    (
+    let a = s .args in (
       rw (line-text (a .count) (drop (a .at) (a .page .now))) (writing-stored (writing-byte 10 [] (written p))),
       omega (arith, three (s .args .count) (s .pre .0), d .decimal-at .ensures .place, p .positions-at .ensures .1),
     )

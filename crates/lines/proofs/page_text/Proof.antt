@@ -62,8 +62,7 @@ returns-2 c =
 line-at-requires : tie.Need-line-at-requires Inv-loop μ-loop
 line-at-requires c κs =
     let k = c .before .before in
-    let p = k .before .before in
-    (
+    let p = k .before .before in (
       omega (arith, k .shared-slice-known2 .given (p .loop .at)),
       omega arith,
       omega (arith, p .loop .inv .2 .size),
@@ -83,13 +82,12 @@ loop-again c =
     let q = c .before .before in
     let p = q .before .before .before .before .before in
     let page = p .before .before .before .before .args .page .now in
-    let k = getD page (p .loop .at) 0 in
-    (
+    let k = getD page (p .loop .at) 0 in (
       omega arith,
       omega (arith, q .line-at .ensures .1),
       writing-part (lineOf (positionsIn k (drop (p .loop .at + 1) page))) _
-      (rw (text-step page (p .loop .at) k refl (q .before .before .before .before .loop-test .taken) (q .before .before .if2 .left)) at (p .loop .inv .2))
-      _ _ (q .line-at .ensures .0 .bytes) (q .line-at .ensures .0 .place),
+          (rw (text-step page (p .loop .at) k refl (q .before .before .before .before .loop-test .taken) (q .before .before .if2 .left)) at (p .loop .inv .2))
+          _ _ (q .line-at .ensures .0 .bytes) (q .line-at .ensures .0 .place),
     )
 
 same-length-2 : tie.Need-same-length-2 Inv-loop μ-loop

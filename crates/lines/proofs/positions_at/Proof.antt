@@ -83,13 +83,12 @@ loop-again : tie.Need-loop-again Inv-loop μ-loop
 loop-again c =
     let p = c .before .before .before .before .before .before .before in
     let page = p .before .before .before .args .page .now in
-    let rest = spaced (positionsIn (p .loop .left - 1) (drop (p .loop .from + 2) page)) in
-    (
+    let rest = spaced (positionsIn (p .loop .left - 1) (drop (p .loop .from + 2) page)) in (
       omega arith,
       omega (arith, short (c .before .before .before .before), c .before .before .decimal-at .ensures .place),
       writing-part (decimal (position p)) rest
-      (writing-byte 32 (decimal (position p) ++ rest) (rw (spaced-step page (p .loop .from) (p .loop .left) (c .before .before .before .before .before .before .loop-test .taken)) at (p .loop .inv .2)))
-      _ _ (c .before .before .decimal-at .ensures .bytes) (c .before .before .decimal-at .ensures .place),
+          (writing-byte 32 (decimal (position p) ++ rest) (rw (spaced-step page (p .loop .from) (p .loop .left) (c .before .before .before .before .before .before .loop-test .taken)) at (p .loop .inv .2)))
+          _ _ (c .before .before .decimal-at .ensures .bytes) (c .before .before .decimal-at .ensures .place),
     )
 
 same-length : tie.Need-same-length Inv-loop μ-loop
