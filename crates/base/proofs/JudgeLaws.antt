@@ -1,6 +1,6 @@
 -- What is known once a list of conditions has been judged, whatever is made of the judgement.
 use mathlib.Core.Path.{_≡_, refl, ap}
-use mathlib.Core.Bool.{true, false}
+use mathlib.Core.Bool.{Bool, true, false}
 use mathlib.Core.List.{List, [], _∷_}
 use Prim.Native.Nat.{ℕ}
 use native.Mathlib.Omega.{arith}
@@ -54,3 +54,11 @@ first-of (each h hs) = h
 
 pub rest-of : {A : Type 0} {P : A → Type 0} {x : A} {xs : List A} → All P (x ∷ xs) → All P xs
 rest-of (each h hs) = hs
+
+-- ---- conditions tested one after the other: t is the answer of a test, b the condition that it decides
+
+pub passed : {R : Type 0} {b t : Bool} {y x : R} (a : R) → t ≡ b → t ≡ false → y ≡ x → y ≡ pick b a x
+passed a e h k = rw (← e, h) k
+
+pub stopped : {R : Type 0} {b t : Bool} {a : R} (x : R) → t ≡ b → t ≡ true → a ≡ pick b a x
+stopped x e h = rw (← e, h)

@@ -1,0 +1,12 @@
+pub mod OrderLaws
+pub mod MemberLaws
+pub mod SiftLaws
+pub mod SortedLaws
+pub mod FollowLaws
+pub mod ListingLaws
+pub mod CountLaws
+pub mod MarkLaws
+pub mod PageLaws
+pub mod PositionLaws
+pub mod RecordLaws
+pub mod SequenceLaws

@@ -1,4 +1,12 @@
 // Error patterns, marks, and a pattern as a slice of its positions.
+ghost use mathlib.Core.Path.{_≡_};
+ghost use mathlib.Core.List.{_++_};
+ghost use Prim.Native.Nat.{_+_, _*_, _<_, _≤_};
+ghost use lib.ListN.{length, take, drop};
+ghost use Rattle.patterns.specs.Patterns.{positions, placeOf};
+ghost use Rattle.patterns.specs.Listing.{ascending};
+ghost use Rattle.patterns.specs.Marks.{unfitPattern, unfitMark};
+ghost use Rattle.patterns.specs.RecordPut.{RecordPut};
 
 // A set of positions, by their count, in ascending order.
 pub enum Pattern {
@@ -14,4 +22,124 @@ pub enum Mark {
     Start,
     Ended,
     After(Pattern),
+}
+
+// The pattern of a slice's first positions, as many as a pattern holds.
+pub fn from_positions(pos: &[u16]) -> Pattern
+    ensures { λ r. ⌜ positions r ≡ take 4 (now (pos .entry)) ⌝ }
+{
+    let n = pos.len();
+    if n == 0 {
+        return Pattern::Empty;
+    }
+    if n == 1 {
+        return Pattern::One(pos[0]);
+    }
+    if n == 2 {
+        return Pattern::Two(pos[0], pos[1]);
+    }
+    if n == 3 {
+        return Pattern::Three(pos[0], pos[1], pos[2]);
+    }
+    Pattern::Four(pos[0], pos[1], pos[2], pos[3])
+}
+
+pub fn count_of(p: Pattern) -> usize
+    ensures { λ r. ⌜ r ≡ length (positions p) ⌝ }
+{
+    match p {
+        Pattern::Empty => 0,
+        Pattern::One(_) => 1,
+        Pattern::Two(_, _) => 2,
+        Pattern::Three(_, _, _) => 3,
+        Pattern::Four(_, _, _, _) => 4,
+    }
+}
+
+// Its positions in an array, with zeros behind them.
+pub fn spread(p: Pattern) -> [u16; 4]
+    ensures { λ r. ⌜ take (length (positions p)) r ≡ positions p ⌝ }
+{
+    match p {
+        Pattern::Empty => [0, 0, 0, 0],
+        Pattern::One(a) => [a, 0, 0, 0],
+        Pattern::Two(a, b) => [a, b, 0, 0],
+        Pattern::Three(a, b, c) => [a, b, c, 0],
+        Pattern::Four(a, b, c, d) => [a, b, c, d],
+    }
+}
+
+// Its positions, into the front of a slice.
+pub fn put_positions(p: Pattern, pos: &mut [u16])
+    requires { ⌜ length (positions p) ≤ length (now pos) ⌝ }
+    ensures { λ r. ⌜ now (pos .exit) ≡ positions p ++ drop (length (positions p)) (now (pos .entry)) ⌝ }
+{
+    let held = spread(p);
+    let n = count_of(p);
+    let mut i = 0;
+    while i < n {
+        pos[i] = held[i];
+        i += 1;
+    }
+}
+
+// Are these strictly ascending positions below l?
+fn ascends(pos: &[u16], l: usize) -> bool
+    ensures { λ r. ⌜ r ≡ ascending l 0 (now (pos .entry)) ⌝ }
+{
+    let mut from: usize = 0;
+    let mut i = 0;
+    while i < pos.len() {
+        let p = pos[i] as usize;
+        if p < from {
+            return false;
+        }
+        if l <= p {
+            return false;
+        }
+        from = p + 1;
+        i += 1;
+    }
+    true
+}
+
+fn unfit_pattern(p: Pattern, l: usize, limit: usize) -> bool
+    ensures { λ r. ⌜ r ≡ unfitPattern l limit (positions p) ⌝ }
+{
+    let held = spread(p);
+    let n = count_of(p);
+    if limit < n {
+        return true;
+    }
+    !ascends(&held[..n], l)
+}
+
+// Condition 7, for packets of l bits and patterns of at most so many positions.
+pub fn unfit_mark(m: Mark, l: usize, limit: usize) -> bool
+    ensures { λ r. ⌜ r ≡ unfitMark l limit (placeOf m) ⌝ }
+{
+    match m {
+        Mark::Start => false,
+        Mark::Ended => false,
+        Mark::After(p) => unfit_pattern(p, l, limit),
+    }
+}
+
+// The record of some positions, into an output from the byte `at` on; the answer is the place behind it.
+pub fn put_record(pos: &[u16], out: &mut [u8], at: usize) -> usize
+    requires { ⌜ (length (now pos) < 256) × (at + (1 + 2 * length (now pos)) ≤ length (now out)) ⌝ }
+    ensures { λ r. ⌜ RecordPut (now (pos .entry)) (now (out .entry)) at (now (out .exit)) r ⌝ }
+{
+    let n = pos.len();
+    out[at] = n as u8;
+    let mut to = at + 1;
+    let mut i = 0;
+    while i < n {
+        let p = pos[i];
+        out[to] = (p / 256) as u8;
+        out[to + 1] = (p % 256) as u8;
+        to += 2;
+        i += 1;
+    }
+    to
 }

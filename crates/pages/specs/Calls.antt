@@ -1,0 +1,33 @@
+-- The page call: what it answers, and what its output then holds.
+use Prim.Native.Nat.{ℕ}
+use mathlib.Core.List.{List}
+use Rattle.base.specs.Outcome.{Outcome, refused, accepted}
+use Rattle.base.specs.Refusals.{number}
+use Rattle.poly.specs.Polynomial.{degree}
+use Rattle.patterns.specs.Patterns.{Place, placeOf}
+use Rattle.patterns.specs.Listing.{listing}
+use Rattle.patterns.specs.Marks.{remaining}
+use Rattle.patterns.specs.Pages.{Page}
+use Rattle.patterns.specs.Sequences.{pageAnswer, pageOutput}
+use Rattle.pages.specs.Conditions.{Request, pageConditions}
+use Rattle.pages.specs.declared.PageResult.{PageResult}
+use Rattle.pages.specs.declared.PageAnswer.{PageAnswer}
+use Rattle.pages.specs.declared.PageAnswer.the-variants.{Paged, Refused}
+
+-- the values of an accepted call's answer
+abbrev pub pageResult : PageResult → Page
+pageResult r = record { used = r .used; written = r .written; next = placeOf (r .next) }
+
+abbrev pub answered : PageAnswer → Outcome Page
+answered (Paged r) = accepted (pageResult r)
+answered (Refused r) = refused (number r)
+
+-- the list that a call pages through
+abbrev pub requested : Request → List (List ℕ)
+requested r = listing (degree (r .generator)) (r .generator) (r .bits) (r .limit) (r .syndrome)
+
+abbrev pub pageCall : Request → Place → Outcome Page
+pageCall r mark = pageAnswer (pageConditions r mark) (remaining (requested r) mark) (r .output)
+
+abbrev pub pageLeft : Request → Place → List ℕ
+pageLeft r mark = pageOutput (pageConditions r mark) (remaining (requested r) mark) (r .output)

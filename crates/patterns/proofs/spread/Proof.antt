@@ -1,0 +1,49 @@
+-- `spread` lays the positions out: each arm by what the match learnt of the pattern.
+use borrow.Author.Needs.{needs}
+use Rattle.patterns.proofs.spread.Statement.{statement}
+use Rattle.patterns.proofs.spread.Tie as tie
+
+enum-told : tie.Need-enum-told
+enum-told c = search needs
+
+enum-known-p : tie.Need-enum-known-p
+enum-known-p c = search needs
+
+enum-known-p-2 : tie.Need-enum-known-p-2
+enum-known-p-2 c = search needs
+
+enum-known-p-3 : tie.Need-enum-known-p-3
+enum-known-p-3 c = search needs
+
+enum-known-p-4 : tie.Need-enum-known-p-4
+enum-known-p-4 c = search needs
+
+returns : tie.Need-returns
+returns c = search needs
+
+returns-2 : tie.Need-returns-2
+returns-2 c = rw (c .before .p .given .1)
+
+returns-3 : tie.Need-returns-3
+returns-3 c = rw (c .before .p2 .given .1)
+
+returns-4 : tie.Need-returns-4
+returns-4 c = rw (c .before .p3 .given .1)
+
+returns-5 : tie.Need-returns-5
+returns-5 c = rw (c .before .p4 .given .1)
+
+pub spread-spec : {M : Type 1} → statement M
+spread-spec =
+    tie.close
+    (tie.spec
+    enum-told
+    enum-known-p
+    enum-known-p-2
+    enum-known-p-3
+    enum-known-p-4
+    returns
+    returns-2
+    returns-3
+    returns-4
+    returns-5)

@@ -1,0 +1,127 @@
+-- `resume` finds the first set of as many positions that comes after the given one. It ends since each call has one
+-- position less to go on from.
+use mathlib.Core.Path.{_≡_, refl, sym, ap, _∙_}
+use mathlib.Core.List.{List, [], _∷_}
+use Prim.Native.Nat.{ℕ, suc, _+_, _-_, _<_, _≤_}
+use borrow.Author.Needs.{needs}
+use native.Mathlib.Omega.{arith}
+use lib.ListN.{length, getD}
+use Rattle.search.proofs.HeadLaws.{firstAfter-empty}
+use Rattle.search.proofs.NearestLaws.{ready-next, ready-at}
+use Rattle.search.proofs.TailLaws.{tail-length, tail-back-length, head-below, tail-ascends, resume-hit, resume-miss}
+use borrow.Fn.Kinds.{In}
+use borrow.Fn.PlainCycle.{Measures, is, falls, and}
+use Rattle.search.proofs.resume.Reads as resume
+use Rattle.search.proofs.resume.Kinds as resume-kinds
+use Rattle.search.proofs.+resume.Lts-resume as resume-lts
+use Rattle.search.proofs.place.Reads as place-reads
+use Rattle.search.proofs.+resume.{statement}
+use Rattle.search.proofs.+resume.Tie.{close}
+
+abbrev μ-resume : Measures 3 resume-kinds.ps ℕ
+μ-resume κs a = length (a .1 .1 .1 .1 .0 .now)
+
+abbrev resume-at : ℕ → In 3 resume-kinds.ps
+resume-at t = and 3 resume-kinds.ps (is 3 resume-kinds.ps μ-resume t) resume.Pre
+
+abbrev resume-below : ℕ → In 3 resume-kinds.ps
+resume-below t = and 3 resume-kinds.ps (falls 3 resume-kinds.ps _<_ μ-resume t) resume.Pre
+
+resume-returns : (t : ℕ) → resume-lts.Need-returns (resume-below t, resume.Post, place-reads.Asked, place-reads.Learnt) (resume-at t) resume.Post
+resume-returns t c power l =
+    let s = c .before .before .before .before in
+    sym (firstAfter-empty power (length (s .args .pow .now)) (s .args .u) (s .args .pos .now) (omega arith))
+
+resume-slice-read-p : (t : ℕ) → resume-lts.Need-slice-read-p (resume-below t, resume.Post, place-reads.Asked, place-reads.Learnt) (resume-at t) resume.Post
+resume-slice-read-p t c = search needs
+
+resume-cast-p : (t : ℕ) → resume-lts.Need-cast-p (resume-below t, resume.Post, place-reads.Asked, place-reads.Learnt) (resume-at t) resume.Post
+resume-cast-p t c = omega (arith, head-below (c .before .before .before .before .before .pre .1 .1) (omega arith))
+
+resume-mul-v : (t : ℕ) → resume-lts.Need-mul-v (resume-below t, resume.Post, place-reads.Asked, place-reads.Learnt) (resume-at t) resume.Post
+resume-mul-v t c = omega (arith, head-below (c .before .before .before .before .before .pre .1 .1) (omega arith))
+
+resume-shared-slice-read-v : (t : ℕ) → resume-lts.Need-shared-slice-read-v (resume-below t, resume.Post, place-reads.Asked, place-reads.Learnt) (resume-at t) resume.Post
+resume-shared-slice-read-v t c = head-below (c .before .before .before .before .before .before .pre .1 .1) (omega arith)
+
+resume-cast-v : (t : ℕ) → resume-lts.Need-cast-v (resume-below t, resume.Post, place-reads.Asked, place-reads.Learnt) (resume-at t) resume.Post
+resume-cast-v t c =
+    let s = c .before .before .before .before .before .before in
+    omega (arith, c .shared-slice-known3 .given (getD (s .args .pos .now) 0 0))
+
+resume-sub-resume : (t : ℕ) → resume-lts.Need-sub-resume (resume-below t, resume.Post, place-reads.Asked, place-reads.Learnt) (resume-at t) resume.Post
+resume-sub-resume t c = search needs
+
+resume-part-resume-start : (t : ℕ) → resume-lts.Need-part-resume-start (resume-below t, resume.Post, place-reads.Asked, place-reads.Learnt) (resume-at t) resume.Post
+resume-part-resume-start t c = search needs
+
+resume-part-resume-end : (t : ℕ) → resume-lts.Need-part-resume-end (resume-below t, resume.Post, place-reads.Asked, place-reads.Learnt) (resume-at t) resume.Post
+resume-part-resume-end t c = search needs
+
+resume-resume-requires : (t : ℕ) → resume-lts.Need-resume-requires (resume-below t, resume.Post, place-reads.Asked, place-reads.Learnt) (resume-at t) resume.Post
+resume-resume-requires t c κs =
+    let s = c .before .before .before .before .before .before .before in
+    let h = head-below (s .pre .1 .1) (omega arith) in (
+      omega (arith, tail-length (s .args .pos .now), s .pre .0),
+      (ready-at (ready-next (s .pre .1 .0) (getD (s .args .pos .now) 0 0) h) 0 (omega arith), tail-ascends (s .pre .1 .1) (omega arith)),
+    )
+
+resume-same-length : (t : ℕ) → resume-lts.Need-same-length (resume-below t, resume.Post, place-reads.Asked, place-reads.Learnt) (resume-at t) resume.Post
+resume-same-length t c =
+    let s = c .before .before .before .before .before .before .before .before .before .before .before in
+    let r = c .before .before .before .resume in
+    tail-back-length (s .args .pos .now) (r .last .1 .1 .1 .1 .0) (omega arith) (r .kept .1 .1 .1 .1 .0)
+
+resume-returns-2 : (t : ℕ) → resume-lts.Need-returns-2 (resume-below t, resume.Post, place-reads.Asked, place-reads.Learnt) (resume-at t) resume.Post
+resume-returns-2 t c power l =
+    let s = c .before .before .before .before .before .before .before .before .before .before .before in
+    let r = c .before .before .before .resume in
+    resume-hit l (s .args .u) (s .args .pos .now) (r .last .1 .1 .1 .1 .0) (r .result) (s .pre .1 .1) (omega arith) (r .kept .1 .1 .1 .1 .0) (r .ensures power l) (c .if2 .taken)
+
+resume-add-place : (t : ℕ) → resume-lts.Need-add-place (resume-below t, resume.Post, place-reads.Asked, place-reads.Learnt) (resume-at t) resume.Post
+resume-add-place t c = omega (arith, head-below (c .before .before .before .before .before .before .before .before .before .before .before .pre .1 .1) (omega arith))
+
+resume-place-requires : (t : ℕ) → resume-lts.Need-place-requires (resume-below t, resume.Post, place-reads.Asked, place-reads.Learnt) (resume-at t) resume.Post
+resume-place-requires t c κs =
+    let s = c .before .before .before .before .before .before .before .before .before .before .before .before in
+    let h = head-below (s .pre .1 .1) (omega arith) in
+    ready-at (s .pre .1 .0) (getD (s .args .pos .now) 0 0 + 1) (omega arith)
+
+resume-same-length-2 : (t : ℕ) → resume-lts.Need-same-length-2 (resume-below t, resume.Post, place-reads.Asked, place-reads.Learnt) (resume-at t) resume.Post
+resume-same-length-2 t c =
+    let s = c .before .before .before .before .before .before .before .before .before .before .before .before .before .before .before in
+    let r = c .before .before .before .before .before .before .before .resume in
+    c .before .before .place .kept .1 .1 .1 .1 .1 .0 ∙ tail-back-length (s .args .pos .now) (r .last .1 .1 .1 .1 .0) (omega arith) (r .kept .1 .1 .1 .1 .0)
+
+resume-returns-3 : (t : ℕ) → resume-lts.Need-returns-3 (resume-below t, resume.Post, place-reads.Asked, place-reads.Learnt) (resume-at t) resume.Post
+resume-returns-3 t c power l =
+    let s = c .before .before .before .before .before .before .before .before .before .before .before .before .before .before .before in
+    let r = c .before .before .before .before .before .before .before .resume in
+    c .before .before .place .ensures power l
+    ∙ resume-miss l (s .args .u) (s .args .pos .now) (r .last .1 .1 .1 .1 .0) (r .result) (s .pre .1 .1) (omega arith) (r .kept .1 .1 .1 .1 .0) (r .ensures power l) (c .before .before .before .before .if2 .left)
+
+pub +resume-spec : {M : Type 1} → statement M
++resume-spec = close μ-resume λ t. resume-lts.spec (
+  resume-below t,
+  resume.Post,
+  place-reads.Asked,
+  place-reads.Learnt,
+)
+    (resume-at t)
+    resume.Post
+    (resume-returns t)
+    (resume-slice-read-p t)
+    (resume-cast-p t)
+    (resume-mul-v t)
+    (resume-shared-slice-read-v t)
+    (resume-cast-v t)
+    (resume-sub-resume t)
+    (resume-part-resume-start t)
+    (resume-part-resume-end t)
+    (resume-resume-requires t)
+    (resume-same-length t)
+    (resume-returns-2 t)
+    (resume-add-place t)
+    (resume-place-requires t)
+    (resume-same-length-2 t)
+    (resume-returns-3 t)

@@ -1,0 +1,204 @@
+-- The list count by count: all of it from count 0 on, and what comes after a set: more of its count, then larger
+-- counts. And since the list ascends, what stands behind its first is what comes after its first.
+use mathlib.Core.Path.{_≡_, refl, sym, ap, ap₂, _∙_}
+use mathlib.Core.Bool.{Bool, true, false}
+use mathlib.Core.List.{List, [], _∷_, _++_, append-assoc, append-nil}
+use Prim.Native.Nat.{ℕ, zero, suc, _+_, _-_, _<_, _≤_}
+use native.Mathlib.Omega.{arith}
+use lib.Dec.{eqb}
+use lib.ListN.{length, take, drop}
+use lib.Seq.{length-take-le, take-at}
+use Rattle.base.specs.Lists.{All, none, each}
+use Rattle.base.proofs.Cases.{by-order}
+use Rattle.patterns.specs.Order.{lower, before}
+use Rattle.patterns.specs.Listing.{Ascending, choose, upTo, sift}
+use Rattle.search.specs.Search.{xorAll, summing, listed, Head, nothing, leads, headOf, rising, firstOf, firstAfter, answer, Leads}
+use Rattle.search.proofs.SiftLaws.{sift-append, sift-all, sift-none, sift-same, sift-skip, sift-within, passing, all-append, all-map, all-of, all-sift}
+use Rattle.search.proofs.OrderLaws.{before-fewer, before-more, before-equal, before-irrefl, before-trans, Sorted, nil, cons, sorted-append, sorted-sift}
+use Rattle.search.proofs.ChooseLaws.{choose-count, choose-ascending, choose-sorted}
+use Rattle.search.proofs.HeadLaws.{orElse, head-append, head-nil, summing-append, summing-sift, summing-nil, firstOf-whole}
+
+pub rising-none : (l k : ℕ) → rising l k zero ≡ []
+unfolding rising
+rising-none l k = refl
+
+pub rising-suc : (l k m : ℕ) → rising l k (suc m) ≡ choose l k zero ++ rising l (suc k) m
+unfolding rising
+rising-suc l k m = refl
+
+upTo-zero : (l : ℕ) → upTo l zero ≡ choose l zero zero
+unfolding upTo
+upTo-zero l = refl
+
+upTo-suc : (l n : ℕ) → upTo l (suc n) ≡ upTo l n ++ choose l (suc n) zero
+unfolding upTo
+upTo-suc l n = refl
+
+-- one count more at the end
+rising-snoc : (l k m : ℕ) → rising l k (suc m) ≡ rising l k m ++ choose l (k + m) zero
+rising-snoc l k zero =
+    let e : k ≡ k + zero = omega arith in
+    rising-suc l k zero ∙ ap (λ (x : List (List ℕ)). choose l k zero ++ x) (rising-none l (suc k)) ∙ append-nil (choose l k zero)
+    ∙ ap (λ (j : ℕ). choose l j zero) e
+    ∙ sym (ap (λ (x : List (List ℕ)). x ++ choose l (k + zero) zero) (rising-none l k))
+rising-snoc l k (suc m) =
+    let e : suc k + m ≡ k + suc m = omega arith in
+    rising-suc l k (suc m)
+    ∙ ap (λ (x : List (List ℕ)). choose l k zero ++ x) (rising-snoc l (suc k) m)
+    ∙ sym (append-assoc (choose l k zero) (rising l (suc k) m) (choose l (suc k + m) zero))
+    ∙ ap₂ (λ (x y : List (List ℕ)). x ++ y) (sym (rising-suc l k m)) (ap (λ (j : ℕ). choose l j zero) e)
+
+pub upTo-rising : (l n : ℕ) → upTo l n ≡ rising l zero (suc n)
+upTo-rising l zero = upTo-zero l ∙ sym (rising-suc l zero zero ∙ ap (λ (x : List (List ℕ)). choose l zero zero ++ x) (rising-none l 1) ∙ append-nil (choose l zero zero))
+upTo-rising l (suc n) =
+    let e : suc n ≡ zero + suc n = omega arith in
+    upTo-suc l n ∙ ap₂ (λ (x : List (List ℕ)) (j : ℕ). x ++ choose l j zero) (upTo-rising l n) e ∙ sym (rising-snoc l zero (suc n))
+
+upTo-count : (l n : ℕ) → All (λ q. length q ≤ n) (upTo l n)
+upTo-count l zero = rw upTo-zero (all-map (λ q e. omega arith) (choose-count l zero zero))
+upTo-count l (suc n) =
+    rw upTo-suc
+    (all-append (all-map (λ q e. omega arith) (upTo-count l n)) (all-map (λ q e. omega arith) (choose-count l (suc n) zero)))
+
+-- by the count, a set comes after none of the smaller ones, after those of its own count that are lower, and before all larger ones
+fewer-none : (p : List ℕ) (l n : ℕ) → n < length p → sift (before p) (upTo l n) ≡ []
+fewer-none p l n h = sift-none (before p) (all-map (λ q e. before-more p q (omega arith)) (upTo-count l n))
+
+same-lower : (p : List ℕ) (l : ℕ) → sift (before p) (choose l (length p) zero) ≡ sift (lower p) (choose l (length p) zero)
+same-lower p l = sift-same (before p) (lower p) (all-map (λ q e. before-equal p q (sym e)) (choose-count l (length p) zero))
+
+more-all : (p : List ℕ) (l k : ℕ) → length p < k → sift (before p) (choose l k zero) ≡ choose l k zero
+more-all p l k h = sift-all (before p) (all-map (λ q e. before-fewer p q (omega arith)) (choose-count l k zero))
+
+own-count : (p : List ℕ) (l n : ℕ) → length p ≡ n → sift (before p) (upTo l n) ≡ sift (lower p) (choose l (length p) zero)
+own-count p l zero e =
+    ap (sift (before p)) (upTo-zero l ∙ ap (λ (j : ℕ). choose l j zero) (sym e)) ∙ same-lower p l
+own-count p l (suc n) e =
+    ap (sift (before p)) (upTo-suc l n)
+    ∙ sift-append (before p) (upTo l n) (choose l (suc n) zero)
+    ∙ ap₂ (λ (x y : List (List ℕ)). x ++ y) (fewer-none p l n (omega arith))
+    (ap (λ (j : ℕ). sift (before p) (choose l j zero)) (sym e) ∙ same-lower p l)
+
+pub after-split : (p : List ℕ) (l n m : ℕ) → length p + m ≡ n
+    → sift (before p) (upTo l n) ≡ sift (lower p) (choose l (length p) zero) ++ rising l (suc (length p)) m
+after-split p l n zero e =
+    own-count p l n (omega arith)
+    ∙ sym (ap (λ (x : List (List ℕ)). sift (lower p) (choose l (length p) zero) ++ x) (rising-none l (suc (length p))) ∙ append-nil (sift (lower p) (choose l (length p) zero)))
+after-split p l zero (suc m) e = absurd (omega arith)
+after-split p l (suc n) (suc m) e =
+    let f : suc n ≡ suc (length p) + m = omega arith in
+    ap (sift (before p)) (upTo-suc l n)
+    ∙ sift-append (before p) (upTo l n) (choose l (suc n) zero)
+    ∙ ap₂ (λ (x y : List (List ℕ)). x ++ y) (after-split p l n m (omega arith)) (more-all p l (suc n) (omega arith) ∙ ap (λ (j : ℕ). choose l j zero) f)
+    ∙ append-assoc (sift (lower p) (choose l (length p) zero)) (rising l (suc (length p)) m) (choose l (suc (length p) + m) zero)
+    ∙ ap (λ (x : List (List ℕ)). sift (lower p) (choose l (length p) zero) ++ x) (sym (rising-snoc l (suc (length p)) m))
+
+-- among sets of one count the order is that of the positions
+counted-sorted : {k : ℕ} {xs : List (List ℕ)} → All (λ q. length q ≡ k) xs → Sorted lower xs → Sorted before xs
+counted-sorted none nil = nil
+counted-sorted {k = k} (each {x = x} e es) (cons h s) = cons (both es h) (counted-sorted es s)
+  where
+    both : {ys : List (List ℕ)} → All (λ q. length q ≡ k) ys → All (λ q. lower x q ≡ true) ys → All (λ q. before x q ≡ true) ys
+    both none none = none
+    both (each {x = q} f fs) (each g gs) = each (before-equal x q (e ∙ sym f) ∙ g) (both fs gs)
+
+upTo-sorted : (l n : ℕ) → Sorted before (upTo l n)
+upTo-sorted l zero = rw upTo-zero (counted-sorted (choose-count l zero zero) (choose-sorted l zero zero))
+upTo-sorted l (suc n) =
+    rw upTo-suc
+    (sorted-append before (upTo-sorted l n) (counted-sorted (choose-count l (suc n) zero) (choose-sorted l (suc n) zero))
+    (all-map (λ p h. all-map (λ q e. before-fewer p q (omega arith)) (choose-count l (suc n) zero)) (upTo-count l n)))
+
+upTo-ascending : (l n : ℕ) → All (Ascending l 0) (upTo l n)
+upTo-ascending l zero = rw upTo-zero (choose-ascending l l zero zero (omega arith))
+upTo-ascending l (suc n) = rw upTo-suc (all-append (upTo-ascending l n) (choose-ascending l l (suc n) zero (omega arith)))
+
+pub head-all : {R : List ℕ → Type 0} {xs : List (List ℕ)} {q : List ℕ} → All R xs → headOf xs ≡ leads q → R q
+unfolding headOf
+head-all none h = absurd (let z : _≡_ {A = ℕ} 0 1 = cc in omega arith)
+head-all {R} {q = q} (each {x = x} r rs) h = let e : q ≡ x = cc in rw e r
+
+-- in a list that ascends, behind the first stands what comes after it
+head-rest : (xs : List (List ℕ)) (q : List ℕ) → Sorted before xs → headOf xs ≡ leads q → xs ≡ q ∷ sift (before q) xs
+unfolding headOf
+head-rest [] q s h = absurd (let z : _≡_ {A = ℕ} 0 1 = cc in omega arith)
+head-rest (x ∷ xs) q (cons m s) h =
+    let e : q ≡ x = cc in
+    rw e (ap (λ (ys : List (List ℕ)). x ∷ ys) (sym (sift-skip (before x) x xs (before-irrefl x) ∙ sift-all (before x) m)))
+
+pub head-none : (xs : List (List ℕ)) → headOf xs ≡ nothing → xs ≡ []
+unfolding headOf
+head-none [] h = refl
+head-none (x ∷ xs) h = absurd (let z : _≡_ {A = ℕ} 0 1 = cc in omega arith)
+
+module _ (power : ℕ → ℕ) (l n s : ℕ) where
+  listed-sorted : Sorted before (listed power l n s)
+  unfolding listed summing
+  listed-sorted = sorted-sift before (λ ps. eqb (xorAll power ps) s) (upTo-sorted l n)
+
+  listed-ascending : All (Ascending l 0) (listed power l n s)
+  unfolding listed summing
+  listed-ascending = all-sift (λ ps. eqb (xorAll power ps) s) (upTo-ascending l n)
+
+  pub first-leads : (q : List ℕ) → headOf (listed power l n s) ≡ leads q → Leads l (listed power l n s) (listed power l n s) q
+  first-leads q h = record { split = head-rest (listed power l n s) q listed-sorted h; ascends = head-all listed-ascending h }
+
+  pub next-leads : (p q : List ℕ) → headOf (sift (before p) (listed power l n s)) ≡ leads q
+      → Leads l (listed power l n s) (sift (before p) (listed power l n s)) q
+  next-leads p q h =
+      let after = head-all (passing (before p) (listed power l n s)) h in
+      record {
+        split =
+            head-rest (sift (before p) (listed power l n s)) q (sorted-sift before (before p) listed-sorted) h
+            ∙ ap (λ (ys : List (List ℕ)). q ∷ ys) (sift-within (before q) (before p) (λ r e. before-trans p q r after e) (listed power l n s));
+        ascends = head-all (all-sift (before p) listed-ascending) h;
+      }
+
+  -- count by count
+  pub listed-rising : headOf (listed power l n s) ≡ headOf (summing power s (rising l zero (suc n)))
+  unfolding listed
+  listed-rising = ap (λ (xs : List (List ℕ)). headOf (summing power s xs)) (upTo-rising l n)
+
+  pub after-rising : (p : List ℕ) (m : ℕ) → length p + m ≡ n
+      → headOf (sift (before p) (listed power l n s))
+      ≡ orElse (firstAfter power l p s) (headOf (summing power s (rising l (suc (length p)) m)))
+  unfolding listed firstAfter
+  after-rising p m e =
+      ap headOf
+      (summing-sift power s (before p) (upTo l n)
+      ∙ ap (summing power s) (after-split p l n m e)
+      ∙ summing-append power s (sift (lower p) (choose l (length p) zero)) (rising l (suc (length p)) m)
+      ∙ ap (λ (xs : List (List ℕ)). xs ++ summing power s (rising l (suc (length p)) m)) (sym (summing-sift power s (lower p) (choose l (length p) zero))))
+      ∙ head-append (sift (lower p) (summing power s (choose l (length p) zero))) (summing power s (rising l (suc (length p)) m))
+
+  -- one count of the rise
+  pub rise-step : (k m : ℕ)
+      → headOf (summing power s (rising l k (suc m))) ≡ orElse (firstOf power l k 0 s) (headOf (summing power s (rising l (suc k) m)))
+  rise-step k m =
+      ap (λ (xs : List (List ℕ)). headOf (summing power s xs)) (rising-suc l k m)
+      ∙ ap headOf (summing-append power s (choose l k zero) (rising l (suc k) m))
+      ∙ head-append (summing power s (choose l k zero)) (summing power s (rising l (suc k) m))
+      ∙ ap (λ (h : Head). orElse h (headOf (summing power s (rising l (suc k) m)))) (sym (firstOf-whole power l k s))
+
+  pub rise-none : (k : ℕ) → headOf (summing power s (rising l k zero)) ≡ nothing
+  rise-none k = ap (λ (xs : List (List ℕ)). headOf (summing power s xs)) (rising-none l k) ∙ ap headOf (summing-nil power s) ∙ head-nil
+
+-- one count tried, in a slice xs of n positions whose first k the level below was lent
+module _ (power : ℕ → ℕ) (l s n k : ℕ) (xs ys : List ℕ) (r : Bool) (room : k ≤ n) (whole : length xs ≡ n)
+    (same : length ys ≡ length (take k xs)) (told : answer r ys ≡ firstOf power l (length (take k xs)) 0 s) where
+  rise-turn : headOf (summing power s (rising l k (n + 1 - k))) ≡ orElse (answer r ys) (headOf (summing power s (rising l (k + 1) (n + 1 - (k + 1)))))
+  rise-turn =
+      let e : n + 1 - k ≡ suc (n - k) = omega arith in
+      let f : n - k ≡ n + 1 - (k + 1) = omega arith in
+      let g : suc k ≡ k + 1 = omega arith in
+      ap (λ (m : ℕ). headOf (summing power s (rising l k m))) e
+      ∙ rise-step power l n s k (n - k)
+      ∙ ap₂ orElse
+      (ap (λ (m : ℕ). firstOf power l m 0 s) (sym (length-take-le k xs (omega arith))) ∙ sym told)
+      (ap₂ (λ (a b : ℕ). headOf (summing power s (rising l a b))) g f)
+
+  pub rise-hit : r ≡ true → leads (take k (ys ++ drop k xs)) ≡ headOf (summing power s (rising l k (n + 1 - k)))
+  rise-hit e = ap leads (take-at ys (drop k xs) k (same ∙ length-take-le k xs (omega arith))) ∙ sym (rise-turn ∙ rw e)
+
+  pub rise-miss : r ≡ false → headOf (summing power s (rising l k (n + 1 - k))) ≡ headOf (summing power s (rising l (k + 1) (n + 1 - (k + 1))))
+  rise-miss e = rise-turn ∙ rw e

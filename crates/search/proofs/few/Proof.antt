@@ -1,0 +1,58 @@
+-- `few` places none, one or two positions. No position has the sum 0, and no other.
+use mathlib.Core.Path.{_≡_, sym, ap, _∙_}
+use Prim.Native.Nat.{ℕ}
+use borrow.Author.Needs.{needs}
+use borrow.Author.Tests.{eq-eqb, ne-eqb}
+use native.Mathlib.Omega.{arith}
+use lib.ListN.{length}
+use Rattle.search.specs.Search.{firstOf}
+use Rattle.search.proofs.HeadLaws.{firstOf-empty}
+use Rattle.search.proofs.few.Statement.{statement}
+use Rattle.search.proofs.few.Tie as tie
+
+pair-requires : tie.Need-pair-requires
+pair-requires c κs = search needs
+
+same-length : tie.Need-same-length
+same-length c = search needs
+
+returns : tie.Need-returns
+returns c power t =
+    let s = c .before .before .before .before .before .before .before .before in
+    let e : 2 ≡ length (s .args .pos .now) = omega arith in
+    c .before .before .pair .ensures power t ∙ ap (λ (k : ℕ). firstOf power (length (s .args .pow .now)) k (s .args .lo) (s .args .u)) e
+
+single-requires : tie.Need-single-requires
+single-requires c κs = search needs
+
+same-length-2 : tie.Need-same-length-2
+same-length-2 c = search needs
+
+returns-2 : tie.Need-returns-2
+returns-2 c power t =
+    let s = c .before .before .before .before .before .before .before .before .before in
+    let e : 1 ≡ length (s .args .pos .now) = omega arith in
+    c .before .before .single .ensures power t ∙ ap (λ (k : ℕ). firstOf power (length (s .args .pow .now)) k (s .args .lo) (s .args .u)) e
+
+returns-3 : tie.Need-returns-3
+returns-3 c power t =
+    let s = c .before .before .before .before .before .before in
+    sym (firstOf-empty power (length (s .args .pow .now)) (s .args .lo) (s .args .u) (s .args .pos .now) (omega arith) ∙ rw (eq-eqb 0 (s .args .u) (omega arith)))
+
+returns-4 : tie.Need-returns-4
+returns-4 c power t =
+    let s = c .before .before .before .before .before .before in
+    sym (firstOf-empty power (length (s .args .pow .now)) (s .args .lo) (s .args .u) (s .args .pos .now) (omega arith) ∙ rw (ne-eqb 0 (s .args .u) (omega arith)))
+
+pub few-spec : {M : Type 1} → statement M
+few-spec =
+    tie.close
+    (tie.spec
+    pair-requires
+    same-length
+    returns
+    single-requires
+    same-length-2
+    returns-2
+    returns-3
+    returns-4)

@@ -1,0 +1,104 @@
+-- `rise` finds the first set of the counts from `count` on. The loop's invariant: the counts below `k` have none.
+use mathlib.Core.Path.{_≡_, refl, sym, ap, _∙_}
+use mathlib.Core.List.{List, [], _∷_}
+use Prim.Native.Nat.{ℕ, _+_, _-_, _≤_}
+use borrow.Author.Needs.{needs}
+use native.Mathlib.Omega.{arith}
+use lib.ListN.{length, take}
+use lib.Seq.{length-take-le, length-front}
+use Rattle.search.specs.Search.{headOf, summing, rising, Lookup}
+use Rattle.search.proofs.RisingLaws.{rise-hit, rise-miss, rise-none}
+use Rattle.search.proofs.rise.Statement.{statement}
+use Rattle.search.proofs.rise.Tie as tie
+
+abbrev Inv-loop : tie.InvT-loop
+Inv-loop pow first period count u pos₀ k₀ pos k =
+    (k ≤ length pos₀ + 1) × (length pos ≡ length pos₀)
+    × ((power : ℕ → ℕ) → Lookup power pow first period
+    → headOf (summing power u (rising (length pow) count (length pos₀ + 1 - count))) ≡ headOf (summing power u (rising (length pow) k (length pos₀ + 1 - k))))
+
+abbrev μ-loop : tie.MeasureT-loop
+μ-loop pow first period count u pos₀ k₀ pos k = length pos₀ + 1 - k
+
+loop-holds : tie.Need-loop-holds Inv-loop μ-loop
+loop-holds c = (omega arith, refl, λ power t. refl)
+
+slice-relend-prefix-place : tie.Need-slice-relend-prefix-place Inv-loop μ-loop
+slice-relend-prefix-place c = search needs
+
+slice-aggregate-place : tie.Need-slice-aggregate-place Inv-loop μ-loop
+slice-aggregate-place c = sym (length-take-le (c .before .before .loop .k) (c .before .before .loop .pos) (omega arith))
+
+place-requires : tie.Need-place-requires Inv-loop μ-loop
+place-requires c κs = c .before .before .before .before .before .before .pre .0
+
+same-length : tie.Need-same-length Inv-loop μ-loop
+same-length c =
+    let i = c .before .before .before .before .before .before .loop in
+    let p = c .before .before .before .place in
+    length-front (i .pos) (p .last .1 .1 .1 .1 .1 .0) (i .k) (p .kept .1 .1 .1 .1 .1 .0) ∙ i .inv .1
+
+returns : tie.Need-returns Inv-loop μ-loop
+returns c =
+    let s = c .before .before .before .before .before .before .before .before .before .before in
+    let i = c .before .before .before .before .before .before .loop in
+    let p = c .before .before .before .place in (
+      omega arith,
+      λ power t.
+          rise-hit power (length (s .args .pow .now)) (s .args .u) (length (s .args .pos .now)) (i .k) (i .pos) (p .last .1 .1 .1 .1 .1 .0) (p .result) (omega arith) (i .inv .1) (p .kept .1 .1 .1 .1 .1 .0) (p .ensures power t) (c .if1 .taken)
+          ∙ sym (i .inv .2 power t),
+    )
+
+add-k : tie.Need-add-k Inv-loop μ-loop
+add-k c = omega (arith, c .before .before .before .before .before .before .before .before .before .before .good)
+
+loop-less : tie.Need-loop-less Inv-loop μ-loop
+loop-less c = search needs
+
+loop-again : tie.Need-loop-again Inv-loop μ-loop
+loop-again c =
+    let s = c .before .before .before .before .before .before .before .before .before .before in
+    let i = c .before .before .before .before .before .before .loop in
+    let p = c .before .before .before .place in (
+      omega arith,
+      length-front (i .pos) (p .last .1 .1 .1 .1 .1 .0) (i .k) (p .kept .1 .1 .1 .1 .1 .0) ∙ i .inv .1,
+      λ power t.
+          i .inv .2 power t
+          ∙ rise-miss power (length (s .args .pow .now)) (s .args .u) (length (s .args .pos .now)) (i .k) (i .pos) (p .last .1 .1 .1 .1 .1 .0) (p .result) (omega arith) (i .inv .1) (p .kept .1 .1 .1 .1 .1 .0) (p .ensures power t) (c .if1 .left),
+    )
+
+same-length-2 : tie.Need-same-length-2 Inv-loop μ-loop
+same-length-2 c = omega arith
+
+returns-2 : tie.Need-returns-2 Inv-loop μ-loop
+returns-2 c =
+    let s = c .before .before .before .before .before in
+    let n = length (s .args .pos .now) in
+    let l = length (s .args .pow .now) in
+    let k = c .before .loop .k in (
+      tt,
+      λ power t.
+          let e : n + 1 - k ≡ 0 = omega arith in
+          sym
+          (c .before .loop .inv .2 power t
+          ∙ ap (λ (m : ℕ). headOf (summing power (s .args .u) (rising l k m))) e
+          ∙ rise-none power l n (s .args .u) k),
+    )
+
+pub rise-spec : {M : Type 1} → statement M
+rise-spec =
+    tie.close
+    (tie.spec
+    Inv-loop
+    μ-loop
+    loop-holds
+    slice-relend-prefix-place
+    slice-aggregate-place
+    place-requires
+    same-length
+    returns
+    add-k
+    loop-less
+    loop-again
+    same-length-2
+    returns-2)

@@ -1,0 +1,116 @@
+-- What a search goes through and what it answers, over any powers: the sets of positions whose powers have a given
+-- sum, and the first of them.
+use Prim.Native.Nat.{ℕ, zero, suc, _+_, _-_, _*_, _≤_, _<_}
+use mathlib.Core.Path.{_≡_}
+use mathlib.Core.Bool.{Bool, true, false}
+use mathlib.Core.List.{List, [], _∷_, _++_}
+use lib.Bits.{bitXor}
+use lib.Dec.{eqb}
+use lib.ListN.{length, getD, take}
+use Rattle.patterns.specs.Order.{lower, before}
+use Rattle.patterns.specs.Listing.{Ascending, choose, upTo, sift}
+use Rattle.search.specs.declared.Found.{Found}
+use Rattle.search.specs.declared.Found.the-variants.{At, Nothing}
+
+-- the sum of the powers at the given positions
+unfoldable pub xorAll : (ℕ → ℕ) → List ℕ → ℕ
+xorAll power [] = zero
+xorAll power (p ∷ ps) = bitXor (power p) (xorAll power ps)
+
+-- those of the given sets whose powers have the sum u
+unfoldable pub summing : (ℕ → ℕ) → ℕ → List (List ℕ) → List (List ℕ)
+summing power u xs = sift (λ ps. eqb (xorAll power ps) u) xs
+
+-- the list: the sets of at most so many positions below l whose powers have the sum s
+unfoldable pub listed : (ℕ → ℕ) → ℕ → ℕ → ℕ → List (List ℕ)
+listed power l limit s = summing power s (upTo l limit)
+
+-- the first of a list of sets, if it has one
+pub data Head : Type 0 where
+  nothing : Head
+  leads : List ℕ → Head
+
+unfoldable pub headOf : List (List ℕ) → Head
+headOf [] = nothing
+headOf (p ∷ ps) = leads p
+
+-- the first set of k positions from `from` on and below l whose powers have the sum u
+unfoldable pub firstOf : (ℕ → ℕ) → ℕ → ℕ → ℕ → ℕ → Head
+firstOf power l k from u = headOf (summing power u (choose (l - from) k from))
+
+-- the first such set that comes after ps, among those of as many positions as ps
+unfoldable pub firstAfter : (ℕ → ℕ) → ℕ → List ℕ → ℕ → Head
+firstAfter power l ps u = headOf (sift (lower ps) (summing power u (choose l (length ps) zero)))
+
+-- all sets of k positions below l, then those of k + 1, and so on for m counts
+unfoldable pub rising : ℕ → ℕ → ℕ → List (List ℕ)
+rising l k zero = []
+rising l k (suc m) = choose l k zero ++ rising l (suc k) m
+
+-- an answer of yes or no, with the positions left behind
+abbrev pub answer : Bool → List ℕ → Head
+answer true ps = leads ps
+answer false ps = nothing
+
+-- a count found, of the positions left behind
+abbrev pub found : Found → List ℕ → Head
+found (At k) pos = leads (take k pos)
+found Nothing pos = nothing
+
+-- a count found is at most so many
+abbrev pub Counted : ℕ → Found → Type 0
+Counted limit (At k) = k ≤ limit
+Counted limit Nothing = Unit {0}
+
+-- the least position at or past lo with the power u, if it is below l; no position below l, if it is not
+pub record Nearest (power : ℕ → ℕ) (l lo u p : ℕ) : Type 0 where
+  pub skipped : (q : ℕ) → lo ≤ q → q < p → q < l → power q ≡ u → ⊥
+  pub met : p < l → (lo ≤ p) × (power p ≡ u)
+
+-- what the two tables are to a search: the powers below l, and the first position of each
+pub record Lookup (power : ℕ → ℕ) (pow first : List ℕ) (period : ℕ) : Type 0 where
+  pub known : (p : ℕ) → p < length pow → getD pow p 0 ≡ power p
+  pub bound : (p : ℕ) → power p < length first
+  pub hit : (s : ℕ) → s < length first → getD first s 0 < 65535 → power (getD first s 0) ≡ s
+  pub least : (p : ℕ) → getD first (power p) 0 ≤ p
+  pub again : (p : ℕ) → power (p + period) ≡ power p
+  pub only : (p q : ℕ) → power p ≡ power q → p ≤ q → (k : ℕ) × (q ≡ p + k * period)
+
+-- how they have to lie for each look-up to be within the tables
+pub record Shape (pow first : List ℕ) (period : ℕ) : Type 0 where
+  pub short : length pow ≤ 4096
+  pub inside : (p : ℕ) → p < length pow → getD pow p 0 < length first
+  pub closed : (a b : ℕ) → a < length first → b < length first → bitXor a b < length first
+  pub positive : 1 ≤ period
+
+-- they do, the search starts within them, and the sum looked for is within the second
+pub record Ready (pow first : List ℕ) (period lo u : ℕ) : Type 0 where
+  pub shape : Shape pow first period
+  pub start : lo ≤ length pow
+  pub sum : u < length first
+
+-- what placing k positions from lo on answers, for whatever powers the tables describe
+abbrev pub Placed : List ℕ → List ℕ → ℕ → ℕ → ℕ → ℕ → Bool → List ℕ → Type 0
+Placed pow first period k lo u r pos =
+    (power : ℕ → ℕ) → Lookup power pow first period → answer r pos ≡ firstOf power (length pow) k lo u
+
+-- a search through `ahead`, a part of `list` that ends where the list ends: nothing is there, or the set found
+-- leads it, and behind it stands what comes after it in the list
+pub record Leads (l : ℕ) (list ahead : List (List ℕ)) (p : List ℕ) : Type 0 where
+  pub split : ahead ≡ p ∷ sift (before p) list
+  pub ascends : Ascending l 0 p
+
+abbrev pub Told : ℕ → ℕ → List (List ℕ) → List (List ℕ) → Found → List ℕ → Type 0
+Told l limit list ahead (At k) pos = Leads l list ahead (take k pos) × (k ≤ limit)
+Told l limit list ahead Nothing pos = ahead ≡ []
+
+-- what the two searches tell, for whatever powers the tables describe: of the list, and of what follows p in it
+abbrev pub FirstTold : List ℕ → List ℕ → ℕ → ℕ → ℕ → Found → List ℕ → Type 0
+FirstTold pow first period s limit r pos =
+    (power : ℕ → ℕ) → Lookup power pow first period
+    → Told (length pow) limit (listed power (length pow) limit s) (listed power (length pow) limit s) r pos
+
+abbrev pub NextTold : List ℕ → List ℕ → ℕ → ℕ → ℕ → List ℕ → Found → List ℕ → Type 0
+NextTold pow first period s limit p r pos =
+    (power : ℕ → ℕ) → Lookup power pow first period
+    → Told (length pow) limit (listed power (length pow) limit s) (sift (before p) (listed power (length pow) limit s)) r pos

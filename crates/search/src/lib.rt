@@ -1,0 +1,196 @@
+// The search for the first listed error pattern, and for the first that follows one: all positions but the last are
+// forced, and the last is looked up. `pow` holds the powers of x at the positions below its length, `first` the first
+// position of each remainder. Contracts hold for any powers that the two tables describe.
+ghost use mathlib.Core.Path.{_≡_};
+ghost use Prim.Native.Nat.{ℕ, _+_, _-_, _≤_};
+ghost use lib.ListN.{length, take};
+ghost use Rattle.patterns.specs.Listing.{Ascending};
+ghost use Rattle.search.specs.Search.{
+  answer,
+  Counted,
+  FirstTold,
+  firstAfter,
+  found,
+  headOf,
+  Lookup,
+  Nearest,
+  NextTold,
+  Placed,
+  Ready,
+  rising,
+  summing,
+};
+
+pub enum Found {
+    At(usize),
+    Nothing,
+}
+
+// The least position at or past `lo` whose power is `u`, by the first one and the period. What it returns is at or
+// past the end of `pow` where there is none below it. The first test asks whether the first position is at or past
+// `lo` and below the length, both at once: nearly every trial fails it, and a second test would be a gamble.
+fn nearest(pow: &[u16], first: &[u16], period: usize, lo: usize, u: usize) -> usize
+    requires { ⌜ Ready (now pow) (now first) period lo u ⌝ }
+    ensures { λ r. ⌜ ((power : ℕ → ℕ) → Lookup power (now (pow .entry)) (now (first .entry)) period → Nearest power (length (now (pow .entry))) lo u r) ⌝ }
+{
+    let l = pow.len();
+    let f = first[u] as usize;
+    if (f + 65536 - lo) % 65536 < l - lo {
+        return f;
+    }
+    if l <= period {
+        return l;
+    }
+    if lo <= f {
+        return f;
+    }
+    f + (lo - f + period - 1) / period * period
+}
+
+// Places one position.
+fn single(pow: &[u16], first: &[u16], period: usize, lo: usize, u: usize, pos: &mut [u16]) -> bool
+    requires { ⌜ Ready (now pow) (now first) period lo u × (length (now pos) ≡ 1) ⌝ }
+    ensures { λ r. ⌜ Placed (now (pow .entry)) (now (first .entry)) period 1 lo u r (now (pos .exit)) ⌝ }
+{
+    let p = nearest(pow, first, period, lo, u);
+    if p < pow.len() {
+        pos[0] = p as u16;
+        return true;
+    }
+    false
+}
+
+// Places two positions: the first goes through the positions, and the second is looked up.
+fn pair(pow: &[u16], first: &[u16], period: usize, lo: usize, u: usize, pos: &mut [u16]) -> bool
+    requires { ⌜ Ready (now pow) (now first) period lo u × (length (now pos) ≡ 2) ⌝ }
+    ensures { λ r. ⌜ Placed (now (pow .entry)) (now (first .entry)) period 2 lo u r (now (pos .exit)) ⌝ }
+{
+    let l = pow.len();
+    let mut a = lo;
+    while a < l {
+        let b = nearest(pow, first, period, a + 1, u ^ (pow[a] as usize));
+        if b < l {
+            pos[0] = a as u16;
+            pos[1] = b as u16;
+            return true;
+        }
+        a += 1;
+    }
+    false
+}
+
+// Places at most two positions.
+fn few(pow: &[u16], first: &[u16], period: usize, lo: usize, u: usize, pos: &mut [u16]) -> bool
+    requires { ⌜ Ready (now pow) (now first) period lo u × (length (now pos) ≤ 2) ⌝ }
+    ensures { λ r. ⌜ Placed (now (pow .entry)) (now (first .entry)) period (length (now (pos .entry))) lo u r (now (pos .exit)) ⌝ }
+{
+    if pos.len() == 2 {
+        return pair(pow, first, period, lo, u, pos);
+    }
+    if pos.len() == 1 {
+        return single(pow, first, period, lo, u, pos);
+    }
+    if u == 0 {
+        return true;
+    }
+    false
+}
+
+// Places as many positions as `pos` has room for: the first goes through the positions, and the others are placed
+// behind it.
+fn place(pow: &[u16], first: &[u16], period: usize, lo: usize, u: usize, pos: &mut [u16]) -> bool
+    requires { ⌜ Ready (now pow) (now first) period lo u ⌝ }
+    ensures { λ r. ⌜ Placed (now (pow .entry)) (now (first .entry)) period (length (now (pos .entry))) lo u r (now (pos .exit)) ⌝ }
+{
+    if pos.len() <= 2 {
+        return few(pow, first, period, lo, u, pos);
+    }
+    let mut a = lo;
+    while a < pow.len() {
+        let v = u ^ (pow[a] as usize);
+        if place(pow, first, period, a + 1, v, &mut pos[1..]) {
+            pos[0] = a as u16;
+            return true;
+        }
+        a += 1;
+    }
+    false
+}
+
+// Goes on from the positions in `pos`, which need not have the sum `u`: to the first set of as many positions that
+// comes after them.
+fn resume(pow: &[u16], first: &[u16], period: usize, u: usize, pos: &mut [u16]) -> bool
+    requires { ⌜ Ready (now pow) (now first) period 0 u × Ascending (length (now pow)) 0 (now pos) ⌝ }
+    ensures { λ r. ⌜ ((power : ℕ → ℕ) → Lookup power (now (pow .entry)) (now (first .entry)) period → answer r (now (pos .exit)) ≡ firstAfter power (length (now (pow .entry))) (now (pos .entry)) u) ⌝ }
+{
+    if pos.len() == 0 {
+        return false;
+    }
+    let p = pos[0] as usize;
+    let v = u ^ (pow[p] as usize);
+    if resume(pow, first, period, v, &mut pos[1..]) {
+        return true;
+    }
+    place(pow, first, period, p + 1, u, pos)
+}
+
+// Rises through the counts from `count` to the length of `pos`.
+fn rise(pow: &[u16], first: &[u16], period: usize, count: usize, u: usize, pos: &mut [u16]) -> Found
+    requires { ⌜ Ready (now pow) (now first) period 0 u × (count ≤ length (now pos) + 1) ⌝ }
+    ensures counted { λ r. ⌜ Counted (length (now (pos .entry))) r ⌝ }
+    ensures first { λ r. ⌜ ((power : ℕ → ℕ) → Lookup power (now (pow .entry)) (now (first .entry)) period → found r (now (pos .exit)) ≡ headOf (summing power u (rising (length (now (pow .entry))) count (length (now (pos .entry)) + 1 - count)))) ⌝ }
+{
+    let mut k = count;
+    while k <= pos.len() {
+        if place(pow, first, period, 0, u, &mut pos[..k]) {
+            return Found::At(k);
+        }
+        k += 1;
+    }
+    Found::Nothing
+}
+
+// The first listed pattern of at most as many positions as `pos` has room for: its count, and its positions in front.
+pub fn search_first(
+    pow: &[u16],
+    first: &[u16],
+    period: u64,
+    syndrome: u64,
+    pos: &mut [u16],
+) -> Found
+    requires { ⌜ Ready (now pow) (now first) period 0 syndrome ⌝ }
+    ensures { λ r. ⌜ FirstTold (now (pow .entry)) (now (first .entry)) period syndrome (length (now (pos .entry))) r (now (pos .exit)) ⌝ }
+{
+    rise(pow, first, period as usize, 0, syndrome as usize, pos)
+}
+
+// The first listed pattern that follows the one in front of `pos`, which need not be listed.
+pub fn search_next(
+    pow: &[u16],
+    first: &[u16],
+    period: u64,
+    syndrome: u64,
+    pos: &mut [u16],
+    count: usize,
+) -> Found
+    requires { ⌜ Ready (now pow) (now first) period 0 syndrome × (count ≤ length (now pos)) × Ascending (length (now pow)) 0 (take count (now pos)) ⌝ }
+    ensures { λ r. ⌜ NextTold (now (pow .entry)) (now (first .entry)) period syndrome (length (now (pos .entry))) (take count (now (pos .entry))) r (now (pos .exit)) ⌝ }
+{
+    if resume(
+        pow,
+        first,
+        period as usize,
+        syndrome as usize,
+        &mut pos[..count],
+    ) {
+        return Found::At(count);
+    }
+    rise(
+        pow,
+        first,
+        period as usize,
+        count + 1,
+        syndrome as usize,
+        pos,
+    )
+}

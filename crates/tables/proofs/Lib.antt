@@ -1,0 +1,11 @@
+pub mod LeastLaws
+pub mod StepLaws
+pub mod PowerLaws
+pub mod PeriodLaws
+pub mod FirstLaws
+pub mod TableLaws
+pub mod RuleLaws
+pub mod GatherLaws
+pub mod LentLaws
+pub mod WalkLaws
+pub mod AdmitLaws

@@ -1,0 +1,23 @@
+-- `verify` is true exactly when both tables are right.
+use mathlib.Core.Path.{ap₂, _∙_}
+use mathlib.Core.Bool.{Bool, _&&_}
+use borrow.Author.Needs.{needs}
+use Rattle.tables.specs.Tables.{rightTables}
+use Rattle.tables.proofs.GatherLaws.{or-eqb-zero}
+use Rattle.tables.proofs.verify.Statement.{statement}
+use Rattle.tables.proofs.verify.Tie as tie
+
+wrong-steps-requires : tie.Need-wrong-steps-requires
+wrong-steps-requires c κs = search needs
+
+wrong-firsts-requires : tie.Need-wrong-firsts-requires
+wrong-firsts-requires c κs = search needs
+
+returns : tie.Need-returns
+unfolding rightTables
+returns c =
+    or-eqb-zero (c .before .wrong-steps .result) (c .wrong-firsts .result)
+    ∙ ap₂ (λ (a b : Bool). a && b) (c .before .wrong-steps .ensures) (c .wrong-firsts .ensures)
+
+pub verify-spec : {M : Type 1} → statement M
+verify-spec = tie.close (tie.spec wrong-steps-requires wrong-firsts-requires returns)

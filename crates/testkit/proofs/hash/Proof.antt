@@ -1,0 +1,54 @@
+-- `hash` is safe and ends. Invariant: the hash has 32 bits.
+use Prim.Native.Nat.{_-_, _^_, _<_}
+use lib.ListN.{length, getD}
+use lib.Bits.{xor-lt}
+use native.Mathlib.Omega.{arith}
+use Rattle.testkit.proofs.hash.Statement.{statement}
+use Rattle.testkit.proofs.hash.Tie as tie
+
+abbrev Inv-loop : tie.InvT-loop
+Inv-loop bytes h₀ i₀ h i = h < 2 ^ 32
+
+abbrev μ-loop : tie.MeasureT-loop
+μ-loop bytes h₀ i₀ h i = length bytes - i
+
+loop-holds : tie.Need-loop-holds Inv-loop μ-loop
+loop-holds c = omega arith
+
+shared-slice-read-h : tie.Need-shared-slice-read-h Inv-loop μ-loop
+shared-slice-read-h c = omega arith
+
+cast-h : tie.Need-cast-h Inv-loop μ-loop
+cast-h c = omega (arith, c .shared-slice-known .given (c .before .before .loop .i))
+
+mul-h : tie.Need-mul-h Inv-loop μ-loop
+mul-h c =
+    let b = c .shared-slice-known .given (c .before .before .loop .i) in
+    omega (arith, xor-lt 32 (c .before .before .loop .h) (getD (c .before .before .before .args .bytes .now) (c .before .before .loop .i) 0) (c .before .before .loop .inv) (omega arith))
+
+add-i : tie.Need-add-i Inv-loop μ-loop
+add-i c = omega arith
+
+loop-less : tie.Need-loop-less Inv-loop μ-loop
+loop-less c = omega arith
+
+loop-again : tie.Need-loop-again Inv-loop μ-loop
+loop-again c = omega arith
+
+returns : tie.Need-returns Inv-loop μ-loop
+returns c = omega arith
+
+pub hash-spec : {M : Type 1} → statement M
+hash-spec =
+    tie.close
+    (tie.spec
+    Inv-loop
+    μ-loop
+    loop-holds
+    shared-slice-read-h
+    cast-h
+    mul-h
+    add-i
+    loop-less
+    loop-again
+    returns)

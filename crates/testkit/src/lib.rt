@@ -1,0 +1,130 @@
+// What the test programs share: numbers of a text, bytes from a seed, a hash, and printing.
+use base::Refusal;
+use libc::STDOUT_FILENO;
+ghost use mathlib.Core.Path.{_≡_};
+ghost use Prim.Native.Nat.{_^_, _<_, _≤_};
+ghost use lib.ListN.{length};
+ghost use Rattle.base.specs.Refusals.{number as refusalNumber};
+
+// A number that was read from a text, and the place behind its last digit.
+pub struct Reading {
+    pub value: u64,
+    pub next: usize,
+}
+
+// The place of the first digit from `at` on, or the text's end.
+fn first_digit(text: &[u8], at: usize) -> usize
+    ensures { λ r. ⌜ r ≤ length (now (text .entry)) ⌝ }
+{
+    let mut i = at;
+    while i < text.len() {
+        let b = text[i];
+        if b'0' <= b && b <= b'9' {
+            return i;
+        }
+        i += 1;
+    }
+    text.len()
+}
+
+// The next decimal number from `at` on, modulo 2^32; 0 where the text has no more digits.
+pub fn number(text: &[u8], at: usize) -> Reading
+    ensures { λ r. ⌜ (r .value < 2 ^ 32) × (r .next ≤ length (now (text .entry))) ⌝ }
+{
+    let mut value: u64 = 0;
+    let mut i = first_digit(text, at);
+    while i < text.len() {
+        let b = text[i];
+        if b < b'0' {
+            return Reading { value, next: i };
+        }
+        if b'9' < b {
+            return Reading { value, next: i };
+        }
+        value = (value * 10 + (b - b'0') as u64) % 4294967296;
+        i += 1;
+    }
+    Reading { value, next: i }
+}
+
+// Bytes from a linear congruential generator: the top eight bits of each 32-bit state after the seed.
+pub fn fill(out: &mut [u8], seed: u32) {
+    let mut state = seed as u64;
+    let mut i = 0;
+    while i < out.len() {
+        state = (state * 1664525 + 1013904223) % 4294967296;
+        out[i] = (state / 16777216) as u8;
+        i += 1;
+    }
+}
+
+// Bytes, each a number of the text; the answer is the place behind the last one.
+fn read_bytes(text: &[u8], at: usize, out: &mut [u8]) -> usize {
+    let mut next = at;
+    let mut i = 0;
+    while i < out.len() {
+        let byte = number(text, next);
+        out[i] = (byte.value % 256) as u8;
+        next = byte.next;
+        i += 1;
+    }
+    next
+}
+
+// A packet's bytes: 0 and a seed, or another number and the bytes themselves; the answer is the place behind them.
+pub fn read_packet(text: &[u8], at: usize, packet: &mut [u8]) -> usize {
+    let kind = number(text, at);
+    if kind.value == 0 {
+        let seed = number(text, kind.next);
+        fill(packet, seed.value as u32);
+        return seed.next;
+    }
+    read_bytes(text, kind.next, packet)
+}
+
+// The 32-bit FNV-1a hash: a byte is XORed in, then the product with an odd prime is taken modulo 2^32.
+// Both steps can be undone, so bytes that differ in one place never hash alike.
+pub fn hash(bytes: &[u8]) -> u64 {
+    let mut h: u64 = 2166136261;
+    let mut i = 0;
+    while i < bytes.len() {
+        h = (h ^ bytes[i] as u64) * 16777619 % 4294967296;
+        i += 1;
+    }
+    h
+}
+
+// The number that document 01's table gives to a refusal.
+pub fn refusal_number(r: Refusal) -> u64
+    ensures { λ k. ⌜ k ≡ refusalNumber r ⌝ }
+{
+    match r {
+        Refusal::Generator => 1,
+        Refusal::Length => 2,
+        Refusal::Limit => 3,
+        Refusal::Syndrome => 4,
+        Refusal::TableLength => 5,
+        Refusal::TableEntry => 6,
+        Refusal::Mark => 7,
+        Refusal::Output => 8,
+        Refusal::Range => 9,
+        Refusal::Field => 10,
+    }
+}
+
+// Prints a word as it stands.
+pub fn print(word: &[u8]) {
+    io::write_all(STDOUT_FILENO, word);
+}
+
+// Prints a number and a separator, a blank or a line's end.
+pub fn print_number(n: u64, separator: u8) {
+    io::print_decimal(STDOUT_FILENO, n);
+    io::write_all(STDOUT_FILENO, &[separator]);
+}
+
+// Prints "refused", the number of the refusal and a separator.
+pub fn print_refused(r: Refusal, separator: u8) {
+    io::write_all(STDOUT_FILENO, b"refused ");
+    print_number(refusal_number(r), separator);
+}
