@@ -4,8 +4,8 @@ use mathlib.Core.List.{List, [], _∷_, _++_}
 use Prim.Native.Nat.{ℕ, suc, _+_, _≤_}
 use native.Mathlib.Omega.{arith}
 use lib.ListN.{length, set, length-append, length-set}
-use lib.Seq.{sets, length-sets}
-use Rattle.lines.specs.Text.{Stored}
+use lib.Seq.{sets, length-sets, length-take-le}
+use Rattle.lines.specs.Text.{Stored, Front}
 use Rattle.lines.proofs.StoreLaws.{sets-append}
 
 -- out and next, with `rest` still to be stored from next on, come from out₀ and to with `whole` to be stored
@@ -44,3 +44,9 @@ stored-behind word text out to next after h =
       place = omega (arith, h .place, length-append word text);
       bytes = h .bytes ∙ sym (sets-append word text out to);
     }
+
+pub front-of : (n : ℕ) (xs : List ℕ) → n ≤ length xs → Front n xs
+front-of n xs h = (h, sym (length-take-le n xs h))
+
+pub stored-front : {out : List ℕ} {to : ℕ} {text : List ℕ} {next : ℕ} {after : List ℕ} → Stored out to text next after → next ≤ length out → Front next after
+stored-front {out} {to} {text} {next} {after} h l = front-of next after (omega (arith, ap length (h .bytes), length-sets out to text))

@@ -1,9 +1,9 @@
 -- The listing program's output: a line for each pattern, and a closing line.
 use mathlib.Core.Path.{_≡_}
-use Prim.Native.Nat.{ℕ, zero, suc, _+_, _*_}
+use Prim.Native.Nat.{ℕ, zero, suc, _+_, _*_, _≤_}
 use mathlib.Core.List.{List, [], _∷_, _++_}
 use lib.Dec.{leb}
-use lib.ListN.{length, getD, drop}
+use lib.ListN.{length, getD, take, drop}
 use lib.Seq.{sets}
 use Rattle.base.specs.Outcome.{pick}
 use Rattle.lines.specs.declared.PageText.{PageText}
@@ -41,6 +41,10 @@ pub record Stored (out : List ℕ) (to : ℕ) (text : List ℕ) (next : ℕ) (af
   pub place : next ≡ to + length text
   pub bytes : after ≡ sets out to text
 
+-- n counts bytes at the start of xs; the second part follows from the first, and spares a caller that takes them a proof
+abbrev pub Front : ℕ → List ℕ → Type 0
+Front n xs = (n ≤ length xs) × (n ≡ length (take n xs))
+
 -- so many positions of two bytes each, high byte first
 unfoldable pub positionsIn : ℕ → List ℕ → List ℕ
 positionsIn zero bs = []
@@ -66,3 +70,8 @@ abbrev pub pageText : List ℕ → List ℕ → List ℕ
 pageText page out =
     pick (leb (4 * length page) (length out))
     (textOf (patternsIn page) ++ drop (length (textOf (patternsIn page))) out) out
+
+-- what an answer counts stands at the start of the output
+abbrev pub Shown : PageText → List ℕ → Type 0
+Shown (Written n) out = Front n out
+Shown Short out = Unit {0}

@@ -14,9 +14,11 @@ ghost use Rattle.lines.specs.Text.{
   refusedLine,
   badLine,
   Stored,
+  Front,
   positionsIn,
   pageAnswer,
   pageText,
+  Shown,
 };
 
 // Generator, length in bits, limit and syndrome; or no such line.
@@ -147,6 +149,7 @@ fn line_at(page: &[u8], at: usize, count: usize, out: &mut [u8], to: usize) -> u
 pub fn page_text(page: &[u8], out: &mut [u8]) -> PageText
     ensures answer { λ r. ⌜ r ≡ pageAnswer (now (page .entry)) (length (now (out .entry))) ⌝ }
     ensures bytes { λ _. ⌜ now (out .exit) ≡ pageText (now (page .entry)) (now (out .entry)) ⌝ }
+    ensures front { λ r. ⌜ Shown r (now (out .exit)) ⌝ }
 {
     if out.len() / 4 < page.len() {
         return PageText::Short;
@@ -183,6 +186,15 @@ fn number_of(refusal: Refusal) -> u64
     }
 }
 
+// Writes a line feed at `to`, and answers the place after it.
+fn feed_at(out: &mut [u8], to: usize) -> usize
+    requires { ⌜ to < length (now out) ⌝ }
+    ensures { λ r. ⌜ Stored (now (out .entry)) to (10 ∷ []) r (now (out .exit)) ⌝ }
+{
+    out[to] = b'\n';
+    to + 1
+}
+
 // Writes v in decimal and a line feed from `to` on, and answers the place after it.
 fn number_line_at(v: u64, out: &mut [u8], to: usize) -> usize
     requires { ⌜ to + 21 ≤ length (now out) ⌝ }
@@ -197,7 +209,7 @@ fn number_line_at(v: u64, out: &mut [u8], to: usize) -> usize
 // Writes the line that closes a list of `count` patterns, and answers its length.
 pub fn end_line(count: u64, out: &mut [u8; 32]) -> usize
     ensures text { λ r. ⌜ Stored (now (out .entry)) 0 (endLine count) r (now (out .exit)) ⌝ }
-    ensures short { λ r. ⌜ r ≤ 32 ⌝ }
+    ensures front { λ r. ⌜ Front r (now (out .exit)) ⌝ }
 {
     out[0] = b'e';
     out[1] = b'n';
@@ -209,7 +221,7 @@ pub fn end_line(count: u64, out: &mut [u8; 32]) -> usize
 // Writes the line of a refusal, and answers its length.
 pub fn refused_line(refusal: Refusal, out: &mut [u8; 32]) -> usize
     ensures text { λ r. ⌜ Stored (now (out .entry)) 0 (refusedLine (number refusal)) r (now (out .exit)) ⌝ }
-    ensures short { λ r. ⌜ r ≤ 32 ⌝ }
+    ensures front { λ r. ⌜ Front r (now (out .exit)) ⌝ }
 {
     let k = number_of(refusal);
     out[0] = b'r';
@@ -226,7 +238,7 @@ pub fn refused_line(refusal: Refusal, out: &mut [u8; 32]) -> usize
 // Writes the line for any other input, and answers its length.
 pub fn bad_line(out: &mut [u8; 32]) -> usize
     ensures text { λ r. ⌜ Stored (now (out .entry)) 0 badLine r (now (out .exit)) ⌝ }
-    ensures short { λ r. ⌜ r ≤ 32 ⌝ }
+    ensures front { λ r. ⌜ Front r (now (out .exit)) ⌝ }
 {
     out[0] = b'b';
     out[1] = b'a';
@@ -236,6 +248,5 @@ pub fn bad_line(out: &mut [u8; 32]) -> usize
     out[5] = b'i';
     out[6] = b'n';
     out[7] = b'e';
-    out[8] = b'\n';
-    9
+    feed_at(out, 8)
 }

@@ -34,24 +34,21 @@ fn print_end(count: u64) {
     let mut out = [46u8; 32];
     let n = lines::end_line(count, &mut out);
     testkit::print_number(n as u64, b' ');
-    testkit::print(&out);
-    testkit::print(b"\n");
+    testkit::print(&out[..n]);
 }
 
 fn print_refused(refusal: Refusal) {
     let mut out = [46u8; 32];
     let n = lines::refused_line(refusal, &mut out);
     testkit::print_number(n as u64, b' ');
-    testkit::print(&out);
-    testkit::print(b"\n");
+    testkit::print(&out[..n]);
 }
 
 fn print_bad() {
     let mut out = [46u8; 32];
     let n = lines::bad_line(&mut out);
     testkit::print_number(n as u64, b' ');
-    testkit::print(&out);
-    testkit::print(b"\n");
+    testkit::print(&out[..n]);
 }
 
 fn right_lines() {

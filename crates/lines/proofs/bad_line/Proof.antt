@@ -1,8 +1,10 @@
--- `bad_line` stores the nine bytes of its line one by one.
+-- `bad_line` stores its words byte by byte, and the line feed behind them.
+use mathlib.Core.List.{List, [], _∷_}
+use Prim.Native.Nat.{ℕ}
 use borrow.Author.Needs.{needs}
 use native.Mathlib.Omega.{arith}
-use mathlib.Core.Path.{refl}
 use Rattle.lines.specs.Text.{badLine}
+use Rattle.lines.proofs.WritingLaws.{stored-behind, stored-front}
 use Rattle.lines.proofs.bad_line.Statement.{statement}
 use Rattle.lines.proofs.bad_line.Tie as tie
 
@@ -30,12 +32,15 @@ element-write-out-7 c = search needs
 element-write-out-8 : tie.Need-element-write-out-8
 element-write-out-8 c = search needs
 
-element-write-out-9 : tie.Need-element-write-out-9
-element-write-out-9 c = search needs
+feed-at-requires : tie.Need-feed-at-requires
+feed-at-requires c κs = search needs
 
 returns : tie.Need-returns
 unfolding badLine
-returns c = (record { place = omega arith; bytes = refl }, omega arith)
+returns c = (
+  stored-behind (98 ∷ 97 ∷ 100 ∷ 32 ∷ 108 ∷ 105 ∷ 110 ∷ 101 ∷ []) (10 ∷ []) (c .before .before .args .out .now) 0 _ _ (c .feed-at .ensures),
+  stored-front (c .feed-at .ensures) (omega (arith, c .feed-at .ensures .place)),
+)
 
 pub bad-line-spec : {M : Type 1} → statement M
 bad-line-spec =
@@ -49,5 +54,5 @@ bad-line-spec =
     element-write-out-6
     element-write-out-7
     element-write-out-8
-    element-write-out-9
+    feed-at-requires
     returns)

@@ -5,7 +5,7 @@ use borrow.Author.Needs.{needs}
 use native.Mathlib.Omega.{arith}
 use Rattle.lines.specs.Decimal.{decimal}
 use Rattle.lines.specs.Text.{endLine}
-use Rattle.lines.proofs.WritingLaws.{stored-behind}
+use Rattle.lines.proofs.WritingLaws.{stored-behind, stored-front}
 use Rattle.lines.proofs.end_line.Statement.{statement}
 use Rattle.lines.proofs.end_line.Tie as tie
 
@@ -28,7 +28,10 @@ returns : tie.Need-returns
 unfolding endLine
 returns c =
     let a = c .before .before .args in
-    (stored-behind (101 ∷ 110 ∷ 100 ∷ 32 ∷ []) (decimal (a .count) ++ (10 ∷ [])) (a .out .now) 0 _ _ (c .number-line-at .ensures .0), omega (arith, c .number-line-at .ensures .1))
+    let h =
+    stored-behind (101 ∷ 110 ∷ 100 ∷ 32 ∷ []) (decimal (a .count) ++ (10 ∷ [])) (a .out .now) 0 _ _
+    (c .number-line-at .ensures .0) in
+    (h, stored-front (c .number-line-at .ensures .0) (search needs))
 
 pub end-line-spec : {M : Type 1} → statement M
 end-line-spec =

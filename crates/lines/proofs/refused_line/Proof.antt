@@ -6,7 +6,7 @@ use borrow.Author.Needs.{needs}
 use native.Mathlib.Omega.{arith}
 use Rattle.lines.specs.Decimal.{decimal}
 use Rattle.lines.specs.Text.{refusedLine}
-use Rattle.lines.proofs.WritingLaws.{stored-behind}
+use Rattle.lines.proofs.WritingLaws.{stored-behind, stored-front}
 use Rattle.lines.proofs.refused_line.Statement.{statement}
 use Rattle.lines.proofs.refused_line.Tie as tie
 
@@ -43,11 +43,11 @@ number-line-at-requires c κs = search needs
 returns : tie.Need-returns
 unfolding refusedLine
 returns c =
-    let a = c .before .before .before .args in (
-      rw (sym (c .before .before .number-of .ensures))
-          (stored-behind (114 ∷ 101 ∷ 102 ∷ 117 ∷ 115 ∷ 101 ∷ 100 ∷ 32 ∷ []) (decimal (c .before .before .number-of .result) ++ (10 ∷ [])) (a .out .now) 0 _ _ (c .number-line-at .ensures .0)),
-      omega (arith, c .number-line-at .ensures .1),
-    )
+    let a = c .before .before .before .args in
+    let h =
+    stored-behind (114 ∷ 101 ∷ 102 ∷ 117 ∷ 115 ∷ 101 ∷ 100 ∷ 32 ∷ []) (decimal (c .before .before .number-of .result) ++ (10 ∷ []))
+    (a .out .now) 0 _ _ (c .number-line-at .ensures .0) in
+    (rw (sym (c .before .before .number-of .ensures)) h, stored-front (c .number-line-at .ensures .0) (search needs))
 
 pub refused-line-spec : {M : Type 1} → statement M
 refused-line-spec =
