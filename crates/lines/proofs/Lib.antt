@@ -1,0 +1,7 @@
+pub mod DecimalLaws
+pub mod InputLaws
+pub mod ReadLaws
+pub mod StoreLaws
+pub mod WritingLaws
+pub mod RecordLaws
+pub mod PageLaws

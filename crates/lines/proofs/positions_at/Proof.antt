@@ -1,0 +1,124 @@
+-- `positions_at` writes the positions with their blanks. Invariant: what is stored, with the positions left, is the whole text.
+use mathlib.Core.Path.{_≡_, sym, ap, _∙_}
+use mathlib.Core.List.{List, [], _∷_, _++_}
+use Prim.Native.Nat.{ℕ, _+_, _-_, _*_, _^_, _<_, _≤_}
+use borrow.Author.Needs.{needs}
+use lib.ListN.{length, getD, set, drop, length-set}
+use Rattle.lines.specs.Decimal.{decimal}
+use Rattle.lines.specs.Text.{spaced, positionsIn}
+use Rattle.lines.proofs.DecimalLaws.{decimal-length}
+use Rattle.lines.proofs.RecordLaws.{spaced-step, spaced-none}
+use Rattle.lines.proofs.WritingLaws.{Writing, writing-start, writing-byte, writing-part, writing-stored}
+use native.Mathlib.Omega.{arith}
+use Rattle.lines.proofs.positions_at.Statement.{statement}
+use Rattle.lines.proofs.positions_at.Tie as tie
+use Rattle.lines.proofs.positions_at.Reads as reads
+use Rattle.lines.proofs.positions_at.Lts as lts
+use Rattle.lines.proofs.decimal_at.Reads as decimal-at-reads
+
+abbrev Inv-loop : tie.InvT-loop
+Inv-loop page at count out₀ to from₀ next₀ left₀ out from next left =
+    (from + 2 * left ≤ length page) × (next + 6 * left ≤ to + 6 * count)
+    × Writing out₀ to (spaced (positionsIn count (drop at page))) out next (spaced (positionsIn left (drop from page)))
+
+abbrev μ-loop : tie.MeasureT-loop
+μ-loop page at count out₀ to from₀ next₀ left₀ out from next left = left
+
+-- the position that a turn reads, which two bytes give, has at most five digits
+abbrev position : tie.At-loop Inv-loop μ-loop → ℕ
+position p =
+    getD (p .before .before .before .args .page .now) (p .loop .from) 0 * 256 + getD (p .before .before .before .args .page .now) (p .loop .from + 1) 0
+
+short : (c : tie.After-shared-slice-known3 Inv-loop μ-loop) → length (decimal (position (c .before .before .before))) ≤ 5
+short c =
+    decimal-length 4 (position (c .before .before .before))
+    (omega (arith, c .shared-slice-known3 .given (c .before .before .before .loop .from + 1), c .before .shared-slice-known2 .given (c .before .before .before .loop .from)))
+
+loop-holds : tie.Need-loop-holds Inv-loop μ-loop
+loop-holds c =
+    let a = c .before .before .args in
+    (search needs, omega arith, writing-start (a .out .now) (a .to) _)
+
+shared-slice-read-high : tie.Need-shared-slice-read-high Inv-loop μ-loop
+shared-slice-read-high c = search needs
+
+cast-high : tie.Need-cast-high Inv-loop μ-loop
+cast-high c = omega (arith, c .shared-slice-known2 .given (c .before .before .loop .from))
+
+add-low : tie.Need-add-low Inv-loop μ-loop
+add-low c = search needs
+
+shared-slice-read-low : tie.Need-shared-slice-read-low Inv-loop μ-loop
+shared-slice-read-low c = search needs
+
+cast-low : tie.Need-cast-low Inv-loop μ-loop
+cast-low c = omega (arith, c .shared-slice-known3 .given (c .before .before .before .loop .from + 1))
+
+slice-write-out : tie.Need-slice-write-out Inv-loop μ-loop
+slice-write-out c = search needs
+
+mul-decimal-at : tie.Need-mul-decimal-at Inv-loop μ-loop
+mul-decimal-at c = record { fits = omega (arith, c .shared-slice-known3 .given (c .before .before .before .loop .from + 1), c .before .shared-slice-known2 .given (c .before .before .before .loop .from)) }
+
+add-decimal-at : tie.Need-add-decimal-at Inv-loop μ-loop
+add-decimal-at c = record { fits = omega (arith, c .shared-slice-known3 .given (c .before .before .before .loop .from + 1), c .before .shared-slice-known2 .given (c .before .before .before .loop .from)) }
+
+add-decimal-at-2 : tie.Need-add-decimal-at-2 Inv-loop μ-loop
+add-decimal-at-2 c = search needs
+
+decimal-at-requires : tie.Need-decimal-at-requires Inv-loop μ-loop
+decimal-at-requires c κs =
+    simp length-set (omega (arith, short (c .before), c .before .before .before .before .loop .inv .2 .size))
+
+add-from : tie.Need-add-from Inv-loop μ-loop
+add-from c = search needs
+
+sub-left : tie.Need-sub-left Inv-loop μ-loop
+sub-left c = search needs
+
+loop-less : tie.Need-loop-less Inv-loop μ-loop
+loop-less c = search needs
+
+loop-again : tie.Need-loop-again Inv-loop μ-loop
+loop-again c =
+    let p = c .before .before .before .before .before .before .before in
+    let page = p .before .before .before .args .page .now in
+    let rest = spaced (positionsIn (p .loop .left - 1) (drop (p .loop .from + 2) page)) in (
+      omega arith,
+      omega (arith, short (c .before .before .before .before), c .before .before .decimal-at .ensures .place),
+      writing-part (decimal (position p)) rest
+          (writing-byte 32 (decimal (position p) ++ rest) (rw (spaced-step page (p .loop .from) (p .loop .left) (c .before .before .before .before .before .before .loop-test .taken)) at (p .loop .inv .2)))
+          _ _ (c .before .before .decimal-at .ensures .bytes) (c .before .before .decimal-at .ensures .place),
+    )
+
+same-length : tie.Need-same-length Inv-loop μ-loop
+same-length c = c .before .loop .inv .2 .size
+
+returns : tie.Need-returns Inv-loop μ-loop
+returns c =
+    let z : c .before .loop .left ≡ 0 = omega arith in
+    (writing-stored (rw (z, spaced-none) at (c .before .loop .inv .2)), omega arith)
+
+pub positions-at-spec : {M : Type 1} → statement M
+positions-at-spec =
+    tie.close
+    (tie.spec
+    Inv-loop
+    μ-loop
+    loop-holds
+    shared-slice-read-high
+    cast-high
+    add-low
+    shared-slice-read-low
+    cast-low
+    slice-write-out
+    mul-decimal-at
+    add-decimal-at
+    add-decimal-at-2
+    decimal-at-requires
+    add-from
+    sub-left
+    loop-less
+    loop-again
+    same-length
+    returns)
