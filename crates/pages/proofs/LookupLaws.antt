@@ -72,7 +72,6 @@ module _ (g : Generator) (f : Fit g) (l : ℕ) (short : l ≤ 4096) (pow firsts 
         lookup =
             record {
               known = known;
-              bound = λ p. omega (arith, power-lt n b d p, long);
               hit = λ t k e. rw (entry t (omega (arith, long))) (first-hit n b d one t (omega (arith, long)) (rw (entry t (omega (arith, long))) at e));
               least = λ p. rw (entry (power n b p) (power-lt n b d p)) (first-least n b d one p);
               again = λ p. rw turns (power-again n b d one p);
