@@ -1,3 +1,4 @@
 pub mod Verdicts
 pub mod Calls
 pub mod Demand
+pub mod Worked
