@@ -1,3 +1,4 @@
 pub mod VerdictLaws
 pub mod SentLaws
 pub mod WorkedRows
+pub mod Demand3

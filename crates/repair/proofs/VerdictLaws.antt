@@ -35,13 +35,32 @@ pub ascending-within : {l from : ℕ} {ps : List ℕ} → Ascending l from ps �
 ascending-within none = none
 ascending-within (next h k a) = each k (ascending-within a)
 
-pub only-one : {p : List ℕ} {xs : List (List ℕ)} → Sorted before xs → In p xs → ((q : List ℕ) → In q xs → q ≡ p) → xs ≡ p ∷ []
+no-member : (xs : List (List ℕ)) → ((p : List ℕ) → In p xs → ⊥) → xs ≡ []
+no-member [] h = refl
+no-member (x ∷ xs) h = absurd (h x (here refl))
+
+only-member : {p q : List ℕ} → In q (p ∷ []) → q ≡ p
+only-member (here d) = d
+only-member (there i) = absurd (in-nothing i)
+
+first-two-differ : {x y : List ℕ} {ys : List (List ℕ)} → Sorted before (x ∷ y ∷ ys) → x ≡ y → ⊥
+first-two-differ {y = y} sorted d =
+    true≢false (sym (sorted-head sorted y (here refl)) ∙ ap (λ (q : List ℕ). before q y) d ∙ before-strict-total .irreflexive y)
+
+only-one : {p : List ℕ} {xs : List (List ℕ)} → Sorted before xs → In p xs → ((q : List ℕ) → In q xs → q ≡ p) → xs ≡ p ∷ []
 only-one {xs = []} sorted h only = absurd (in-nothing h)
 only-one {xs = x ∷ []} sorted h only = ap (λ (q : List ℕ). q ∷ []) (only x (here refl))
-only-one {xs = x ∷ y ∷ ys} sorted h only =
-    let same : x ≡ y = only x (here refl) ∙ sym (only y (there (here refl))) in
-    let first : before x y ≡ true = sorted-head sorted y (here refl) in
-    absurd (true≢false (sym first ∙ ap (λ (q : List ℕ). before q y) same ∙ before-strict-total .irreflexive y))
+only-one {xs = x ∷ y ∷ ys} sorted h only = absurd (first-two-differ sorted (only x (here refl) ∙ sym (only y (there (here refl)))))
+
+two-members : (xs : List (List ℕ)) → Sorted before xs → 2 ≤ length xs → (p : List ℕ) × (q : List ℕ) × In p xs × In q xs × (p ≡ q → ⊥)
+two-members [] sorted h = absurd (omega arith)
+two-members (x ∷ []) sorted h = absurd (omega arith)
+two-members (x ∷ y ∷ ys) sorted h = (x, y, here refl, there (here refl), first-two-differ sorted)
+
+members-two : {p q : List ℕ} (xs : List (List ℕ)) → In p xs → In q xs → (p ≡ q → ⊥) → 2 ≤ length xs
+members-two [] i j other = absurd (in-nothing i)
+members-two (x ∷ []) i j other = absurd (other (only-member i ∙ sym (only-member j)))
+members-two (x ∷ y ∷ ys) i j other = omega arith
 
 -- ---- the verdict by the candidates ----
 
@@ -103,7 +122,25 @@ module _ (named : List ℕ) where
       unmended (x ∷ []) f = absurd (f x refl)
       unmended (x ∷ y ∷ ys) f = refl
 
--- ---- which patterns lead to a passing packet ----
+-- ---- the listed sets that lead to a passing packet ----
+
+module _ (g a e limit : ℕ) (s : List ℕ) where
+  pub in-leading : (ps : List ℕ) → In ps (leading g a e limit s) ↔ Leads g a e limit s ps
+  in-leading ps = (
+    λ h. let r = sift-in (λ qs. passesBoth g a e (flips s qs)) (packetList g limit s) h in record { listed = r .0; passing = r .1 },
+    λ l. in-sift (λ qs. passesBoth g a e (flips s qs)) (l .listed) (l .passing),
+  )
+
+  pub leading-sorted : Sorted before (leading g a e limit s)
+  leading-sorted = sorted-sift (λ qs. passesBoth g a e (flips s qs)) (listing-sorted (degree g) g (bits s) limit (remainder g s))
+
+  -- more than one is two that differ
+  pub two-lead : 2 ≤ length (leading g a e limit s)
+      ↔ ((p : List ℕ) × (q : List ℕ) × Leads g a e limit s p × Leads g a e limit s q × (p ≡ q → ⊥))
+  two-lead = (
+    λ h. let r = two-members (leading g a e limit s) leading-sorted h in (r .0, r .1, in-leading (r .0) .0 (r .2), in-leading (r .1) .0 (r .3), r .4),
+    λ r. members-two (leading g a e limit s) (in-leading (r .0) .1 (r .2)) (in-leading (r .1) .1 (r .3)) (r .4),
+  )
 
 module _ (g a e limit : ℕ) (s : List ℕ) (fit : unfit g ≡ false) (bs : Bytes s) where
   -- flipping a listed pattern leaves remainder 0
@@ -120,94 +157,52 @@ module _ (g a e limit : ℕ) (s : List ℕ) (fit : unfit g ≡ false) (bs : Byte
   unfolding passesBoth
   listed-passes ps h = simp (eq-eqb _ _ (listed-remainder ps h))
 
+  -- and the candidates are the listed sets that lead to a passing packet
   pub candidates-leading : candidates g a e limit s ≡ leading g a e limit s
   unfolding candidates
   candidates-leading = sift-same _ (λ ps. passesBoth g a e (flips s ps)) (packetList g limit s) (λ ps h. sym (listed-passes ps h))
 
-  -- a pattern leads to a passing packet exactly when it is a candidate
-  pub candidate-leads : (ps : List ℕ) → In ps (candidates g a e limit s) → Leads g a e limit s ps
-  candidate-leads ps h =
-      let r = sift-in (λ ps. passesBoth g a e (flips s ps)) (packetList g limit s) (rw candidates-leading at h) in
-      record { listed = r .0; passing = r .1 }
-
-  pub leads-candidate : (ps : List ℕ) → Leads g a e limit s ps → In ps (candidates g a e limit s)
-  leads-candidate ps l = rw candidates-leading (in-sift (λ ps. passesBoth g a e (flips s ps)) (l .listed) (l .passing))
-
-  pub candidates-sorted : Sorted before (candidates g a e limit s)
-  unfolding candidates
-  candidates-sorted = sorted-sift _ (listing-sorted (degree g) g (bits s) limit (remainder g s))
+  pub candidate-leads : (ps : List ℕ) → In ps (candidates g a e limit s) ↔ Leads g a e limit s ps
+  candidate-leads ps = rw candidates-leading (in-leading g a e limit s ps)
 
   -- ---- the verdict on a packet that does not pass ----
 
-  -- none exactly when no listed set leads to a passing packet
-  pub verdict-nothing : (named : List ℕ) → verdict g a e limit s named ≡ nothing ↔ ((passesBoth g a e s ≡ false) × ((ps : List ℕ) → Leads g a e limit s ps → ⊥))
-  verdict-nothing named = (
-    λ h.
-        let r = unless-intact named g a e limit s nothing (λ k. let z : _≡_ {A = ℕ} 0 1 = cc in omega arith) h in
-        (r .0, λ ps l. in-nothing (rw (nothing-none named (candidates g a e limit s) (r .1)) at (leads-candidate ps l))),
-    λ h. unpassed named g a e limit s (h .0) ∙ ap (λ (xs : List (List ℕ)). settled xs named) (no-member (candidates g a e limit s) (λ ps i. h .1 ps (candidate-leads ps i))),
-  )
-    where
-      no-member : (xs : List (List ℕ)) → ((ps : List ℕ) → In ps xs → ⊥) → xs ≡ []
-      no-member [] h = refl
-      no-member (x ∷ xs) h = absurd (h x (here refl))
+  module _ (named : List ℕ) where
+    says : passesBoth g a e s ≡ false → {xs : List (List ℕ)} → leading g a e limit s ≡ xs → verdict g a e limit s named ≡ settled xs named
+    says h d = unpassed named g a e limit s h ∙ ap (λ (xs : List (List ℕ)). settled xs named) (candidates-leading ∙ d)
 
-  -- repaired exactly when just one does, and with that one
-  pub verdict-repaired : (named p : List ℕ) → verdict g a e limit s named ≡ repaired p
-      ↔ ((passesBoth g a e s ≡ false) × Leads g a e limit s p × ((q : List ℕ) → Leads g a e limit s q → q ≡ p))
-  verdict-repaired named p = (
-    λ h.
-        let r = unless-intact named g a e limit s (repaired p) (λ k. let z : _≡_ {A = ℕ} 0 1 = cc in omega arith) h in
-        let one = repaired-one named (candidates g a e limit s) p (r .1) in
-        (r .0, candidate-leads p (rw one (here refl)), λ q l. single (rw one at (leads-candidate q l))),
-    λ h.
-        unpassed named g a e limit s (h .0)
-        ∙ ap (λ (xs : List (List ℕ)). settled xs named) (only-one candidates-sorted (leads-candidate p (h .1)) (λ q i. h .2 q (candidate-leads q i))),
-  )
-    where
-      single : {q r : List ℕ} → In q (r ∷ []) → q ≡ r
-      single (here d) = d
-      single (there i) = absurd (in-nothing i)
+    said-of : (v : Said) → (v ≡ intact → ⊥) → verdict g a e limit s named ≡ v → (passesBoth g a e s ≡ false) × (settled (leading g a e limit s) named ≡ v)
+    said-of v other h = rw candidates-leading at (unless-intact named g a e limit s v other h)
 
-  -- several exactly when more than one does, with their number, and with the pattern that it names
-  pub verdict-several : (named : List ℕ) (k : ℕ) (q : List ℕ) → verdict g a e limit s named ≡ several k q
-      ↔ ((passesBoth g a e s ≡ false) × (2 ≤ length (leading g a e limit s)) × (k ≡ length (leading g a e limit s)) × (q ≡ named))
-  verdict-several named k q = (
-    λ h.
-        let r = unless-intact named g a e limit s (several k q) (λ j. let z : _≡_ {A = ℕ} 0 1 = cc in omega arith) h in
-        let m = rw candidates-leading at (several-more named (candidates g a e limit s) k q (r .1)) in
-        (r .0, m .0, m .1, m .2),
-    λ h.
-        unpassed named g a e limit s (h .0)
-        ∙ ap (λ (xs : List (List ℕ)). settled xs named) candidates-leading
-        ∙ more-several named (leading g a e limit s) (h .1) ∙ (let d = h .2 in let n = h .3 in cc),
-  )
+    -- none exactly when no listed set leads to a passing packet
+    pub verdict-nothing : verdict g a e limit s named ≡ nothing ↔ ((passesBoth g a e s ≡ false) × ((ps : List ℕ) → Leads g a e limit s ps → ⊥))
+    verdict-nothing = (
+      λ h.
+          let r = said-of nothing (λ k. let z : _≡_ {A = ℕ} 0 1 = cc in omega arith) h in
+          (r .0, λ ps l. in-nothing (rw (nothing-none named (leading g a e limit s) (r .1)) at (in-leading g a e limit s ps .1 l))),
+      λ h. says (h .0) (no-member (leading g a e limit s) (λ ps i. h .1 ps (in-leading g a e limit s ps .0 i))),
+    )
 
-  -- more than one is two that differ
-  pub two-lead : 2 ≤ length (leading g a e limit s)
-      ↔ ((p : List ℕ) × (q : List ℕ) × Leads g a e limit s p × Leads g a e limit s q × (p ≡ q → ⊥))
-  two-lead = (
-    λ h. two (candidates g a e limit s) candidates-sorted (rw candidates-leading h) (λ ps i. candidate-leads ps i),
-    λ r. rw (← candidates-leading) (differ (candidates g a e limit s) (leads-candidate (r .0) (r .2)) (leads-candidate (r .1) (r .3)) (r .4)),
-  )
-    where
-      two : (xs : List (List ℕ)) → Sorted before xs → 2 ≤ length xs → ((ps : List ℕ) → In ps xs → Leads g a e limit s ps)
-          → (p : List ℕ) × (q : List ℕ) × Leads g a e limit s p × Leads g a e limit s q × (p ≡ q → ⊥)
-      two [] sorted h leads = absurd (omega arith)
-      two (x ∷ []) sorted h leads = absurd (omega arith)
-      two (x ∷ y ∷ ys) sorted h leads = (
-        x,
-        y,
-        leads x (here refl),
-        leads y (there (here refl)),
-        λ d.
-            true≢false
-            (sym (sorted-head sorted y (here refl)) ∙ ap (λ (q : List ℕ). before q y) d ∙ before-strict-total .irreflexive y),
-      )
+    -- repaired exactly when just one does, and with that one
+    pub verdict-repaired : (p : List ℕ) → verdict g a e limit s named ≡ repaired p
+        ↔ ((passesBoth g a e s ≡ false) × Leads g a e limit s p × ((q : List ℕ) → Leads g a e limit s q → q ≡ p))
+    verdict-repaired p = (
+      λ h.
+          let r = said-of (repaired p) (λ k. let z : _≡_ {A = ℕ} 0 1 = cc in omega arith) h in
+          let one = repaired-one named (leading g a e limit s) p (r .1) in
+          (r .0, in-leading g a e limit s p .0 (rw one (here refl)), λ q l. only-member (rw one at (in-leading g a e limit s q .1 l))),
+      λ h.
+          says (h .0)
+          (only-one (leading-sorted g a e limit s) (in-leading g a e limit s p .1 (h .1)) (λ q i. h .2 q (in-leading g a e limit s q .0 i))),
+    )
 
-      differ : (xs : List (List ℕ)) {p q : List ℕ} → In p xs → In q xs → (p ≡ q → ⊥) → 2 ≤ length xs
-      differ [] i j other = absurd (in-nothing i)
-      differ (x ∷ []) (here d) (here f) other = absurd (other (d ∙ sym f))
-      differ (x ∷ []) (here d) (there j) other = absurd (in-nothing j)
-      differ (x ∷ []) (there i) j other = absurd (in-nothing i)
-      differ (x ∷ y ∷ ys) i j other = omega arith
+    -- several exactly when more than one does, with their number, and with the pattern that it names
+    pub verdict-several : (k : ℕ) (q : List ℕ) → verdict g a e limit s named ≡ several k q
+        ↔ ((passesBoth g a e s ≡ false) × (2 ≤ length (leading g a e limit s)) × (k ≡ length (leading g a e limit s)) × (q ≡ named))
+    verdict-several k q = (
+      λ h.
+          let r = said-of (several k q) (λ j. let z : _≡_ {A = ℕ} 0 1 = cc in omega arith) h in
+          let m = several-more named (leading g a e limit s) k q (r .1) in
+          (r .0, m .0, m .1, m .2),
+      λ h. says (h .0) refl ∙ more-several named (leading g a e limit s) (h .1) ∙ (let d = h .2 in let n = h .3 in cc),
+    )

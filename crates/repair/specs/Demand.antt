@@ -10,6 +10,7 @@ use Rattle.packet.specs.Packet.{Bytes, bits, unfitLength, flips}
 use Rattle.checksum.specs.Checksum.{unfitRange}
 use Rattle.patterns.specs.Listing.{sift}
 use Rattle.pages.specs.Conditions.{unfitLimit}
+use Rattle.pages.specs.Sequences.{Lending}
 use Rattle.repair.specs.Verdicts.{passesBoth, packetList}
 use Rattle.repair.specs.Calls.{Repair}
 
@@ -29,3 +30,17 @@ pub record Leads (g a e limit : ℕ) (s ps : List ℕ) : Type 0 where
 -- the listed sets that do
 abbrev pub leading : ℕ → ℕ → ℕ → ℕ → List ℕ → List (List ℕ)
 leading g a e limit s = sift (λ ps. passesBoth g a e (flips s ps)) (packetList g limit s)
+
+-- a repair with that generator, range, limit and packet: tables and output are lent anew at each call
+abbrev pub repairWith : ℕ → ℕ → ℕ → ℕ → List ℕ → Lending → Repair
+repairWith g a e limit s lent =
+    record {
+      generator = g;
+      from = a;
+      to = e;
+      limit = limit;
+      steps = lent .steps;
+      firsts = lent .firsts;
+      packet = s;
+      output = lent .output;
+    }
