@@ -1,6 +1,6 @@
 -- Demand 3, sentence by sentence, in its order and words. The calls are pageCall (in acceptedCalls) and repairCall, which
 -- the contracts of the page and repair functions equal; the definitions named here are all in files of specs/.
-use mathlib.Core.Path.{_≡_, refl, sym, ap, _∙_}
+use mathlib.Core.Path.{_≡_, _∙_}
 use mathlib.Core.Bool.{true, false}
 use mathlib.Core.Logic.{_↔_}
 use mathlib.Core.List.{List, _∷_, _++_}
@@ -8,11 +8,11 @@ use Prim.Native.Nat.{ℕ, _≤_}
 use borrow.Author.Tests.{eq-eqb}
 use lib.ListN.{length, take}
 use Rattle.base.specs.Lists.{In}
-use Rattle.base.specs.Outcome.{accepted, judge}
+use Rattle.base.specs.Outcome.{accepted}
 use Rattle.base.proofs.JudgeLaws.{judge-accepted, judge-value}
 use Rattle.poly.specs.Polynomial.{degree}
 use Rattle.packet.specs.Packet.{Bytes, bits, remainder, flips, difference}
-use Rattle.tables.specs.Tables.{stepTable, firstTable, wrongTables}
+use Rattle.tables.specs.Tables.{stepTable, firstTable}
 use Rattle.tables.proofs.TableLaws.{length-stepTable, length-firstTable, fit-tables, tables-right, not-wrong}
 use Rattle.patterns.specs.Patterns.{start, ended}
 use Rattle.patterns.specs.Order.{before}
@@ -24,7 +24,7 @@ use Rattle.patterns.proofs.ListingLaws.{listed-iff, listed-once, listing-sorted
 use Rattle.pages.specs.Sequences.{Lending, acceptedCalls}
 use Rattle.pages.proofs.SequenceTheorem.{page-sequence}
 use Rattle.repair.specs.Verdicts.{passesBoth, packetList, Said, intact, repaired, several, nothing, verdict, output}
-use Rattle.repair.specs.Calls.{Repair, repairConditions, repairCall, repairOutput, unfitCopy}
+use Rattle.repair.specs.Calls.{repairConditions, repairCall, repairOutput, unfitCopy}
 use Rattle.repair.specs.Demand.{Supposed, Leads, leading, repairWith}
 use Rattle.repair.proofs.VerdictLaws.{verdict-intact, verdict-nothing, verdict-repaired, verdict-several, in-leading, leading-sorted, two-lead}
 use Rattle.repair.proofs.SentLaws.{sent-packet, sent-flipped}

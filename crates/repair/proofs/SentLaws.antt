@@ -3,9 +3,9 @@
 -- pass: none is never said, and where just one passes it is that one.
 -- Where the received packet itself passes both checks the verdict is intact, whatever was sent: that is neither none nor
 -- a repair, and the output then stays as it was.
-use mathlib.Core.Path.{_≡_, refl, sym, ap, ap₂, _∙_}
+use mathlib.Core.Path.{_≡_, sym, ap, ap₂, _∙_}
 use mathlib.Core.Bool.{true, false, true≢false}
-use mathlib.Core.List.{List, [], _∷_}
+use mathlib.Core.List.{List}
 use Prim.Native.Nat.{ℕ, zero, suc, _+_, _≤_, _<_}
 use native.Mathlib.Omega.{arith}
 use borrow.Author.Tests.{eqb-true}

@@ -1,14 +1,13 @@
 -- The verdict in document 01's words. For a listed pattern the flipped packet's remainder is 0, so that a passing range
 -- is as much as passing both checks; and since the list ascends, one member is one set and several are several sets.
 use mathlib.Core.Path.{_≡_, refl, sym, ap, _∙_}
-use mathlib.Core.Bool.{Bool, true, false, true≢false}
+use mathlib.Core.Bool.{true, false, true≢false}
 use mathlib.Core.Logic.{_↔_}
 use mathlib.Core.List.{List, [], _∷_}
-use Prim.Native.Nat.{ℕ, zero, suc, _≤_, _<_}
+use Prim.Native.Nat.{ℕ, _≤_, _<_}
 use native.Mathlib.Omega.{arith}
 use borrow.Author.Tests.{eq-eqb}
 use lib.Bits.{bitXor, xor-self}
-use lib.Dec.{eqb}
 use lib.ListN.{length}
 use Rattle.base.specs.Lists.{In, here, there, All, none, each}
 use Rattle.base.proofs.Cases.{by-test}
@@ -20,7 +19,7 @@ use Rattle.packet.proofs.FlipLaws.{remainder-flips}
 use Rattle.checksum.specs.Checksum.{passes}
 use Rattle.patterns.specs.Order.{before}
 use Rattle.patterns.specs.StrictOrder.{Sorted}
-use Rattle.patterns.specs.Listing.{Ascending, none, next, syndrome, sift}
+use Rattle.patterns.specs.Listing.{Ascending, none, next, syndrome}
 use Rattle.patterns.proofs.OrderLaws.{before-strict-total}
 use Rattle.patterns.proofs.MemberLaws.{in-nothing}
 use Rattle.patterns.proofs.SiftLaws.{sift-in, in-sift, sift-same}
