@@ -1,0 +1,3 @@
+pub mod WeighLaws
+pub mod TallyLaws
+pub mod ConditionLaws
