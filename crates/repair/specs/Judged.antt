@@ -9,7 +9,7 @@ use Rattle.poly.specs.declared.Generator.{Generator}
 use Rattle.packet.specs.Packet.{bits, polynomial, flips}
 use Rattle.checksum.specs.Checksum.{passes}
 use Rattle.patterns.specs.Listing.{listing, sift}
-use Rattle.repair.specs.Verdicts.{Said, intact, settled}
+use Rattle.repair.specs.Verdicts.{Said, intact, settled, mended}
 use Rattle.repair.specs.Calls.{laterConditions}
 use Rattle.repair.specs.Steps.{earliest}
 
@@ -27,3 +27,9 @@ judgedPacket g from to limit s =
 abbrev pub judgedRepair : Generator → ℕ → ℕ → ℕ → List ℕ → List ℕ → ℕ → ℕ → Outcome (Unit {0})
 judgedRepair g from to limit steps firsts long room =
     judge (laterConditions (g .degree) (g .bits) from to limit steps firsts long room) refused (accepted tt)
+
+-- the output after it
+abbrev pub judgedOutput : Generator → ℕ → ℕ → ℕ → List ℕ → List ℕ → List ℕ
+judgedOutput g from to limit s out =
+    pick (eqb (rem (g .degree) (g .bits) (polynomial s)) 0 && passes from to s) out
+    (mended (madeCandidates g from to limit s) s out)

@@ -21,7 +21,15 @@ ghost use Rattle.pages.specs.Judged.{Fit, judgement};
 ghost use Rattle.pages.specs.Filling.{Searchable, FoundFits, Listable, searched, aheadOf};
 ghost use Rattle.repair.specs.Steps.{Flippable, Weighable, Settleable, Tallied, added, earliest};
 ghost use Rattle.repair.specs.Verdicts.{said, settled};
-ghost use Rattle.repair.specs.Judged.{judgedPacket, judgedRepair};
+ghost use Rattle.repair.specs.Judged.{judgedPacket, judgedOutput, judgedRepair};
+ghost use Rattle.repair.specs.Calls.{
+  repairAnswer,
+  named,
+  repairCall,
+  AnswerNamesWell,
+  repairOutput,
+  handedBack,
+};
 
 pub enum Verdict {
     Intact,
@@ -405,4 +413,89 @@ fn judge_repair(
         return Judgement::Refused(Refusal::Range);
     }
     Judgement::Passed
+}
+
+// The verdict on a packet, with the mended packet in the output where one pattern passes.
+fn conclude(
+    g: Generator,
+    from: usize,
+    to: usize,
+    limit: usize,
+    steps: &[u16],
+    firsts: &[u16],
+    packet: &[u8],
+    output: &mut [u8],
+) -> Verdict
+    requires { ⌜ Settleable g from to limit (now steps) (now firsts) (now packet) × (length (now output) ≡ length (now packet)) ⌝ }
+    ensures verdict { λ r. ⌜ said r ≡ judgedPacket g from to limit (now (packet .entry)) ⌝ }
+    ensures bytes { λ _. ⌜ now (output .exit) ≡ judgedOutput g from to limit (now (packet .entry)) (now (output .entry)) ⌝ }
+{
+    let v = settle(g, limit, steps, firsts, packet, from, to);
+    match v {
+        Verdict::Intact => Verdict::Intact,
+        Verdict::Repaired(p) => {
+            mend(packet, p, output);
+            Verdict::Repaired(p)
+        }
+        Verdict::Several(k, p) => Verdict::Several(k, p),
+        Verdict::None => Verdict::None,
+    }
+}
+
+// The verdict on a received packet, and its repair where there is one.
+pub fn repair(
+    generator: u64,
+    from: usize,
+    to: usize,
+    limit: usize,
+    steps: &[u16],
+    firsts: &[u16],
+    packet: &[u8],
+    output: &mut [u8],
+) -> RepairAnswer
+    ensures answer { λ r. ⌜ repairAnswer r ≡ repairCall (record { generator = generator; from = from; to = to; limit = limit; steps = now (steps .entry); firsts = now (firsts .entry); packet = now (packet .entry); output = now (output .entry) }) (named r) ⌝ }
+    ensures names { λ r. ⌜ AnswerNamesWell r (record { generator = generator; from = from; to = to; limit = limit; steps = now (steps .entry); firsts = now (firsts .entry); packet = now (packet .entry); output = now (output .entry) }) ⌝ }
+    ensures bytes { λ _. ⌜ now (output .exit) ≡ repairOutput (record { generator = generator; from = from; to = to; limit = limit; steps = now (steps .entry); firsts = now (firsts .entry); packet = now (packet .entry); output = now (output .entry) }) ⌝ }
+{
+    let made = packet::admit(generator, packet.len());
+    match made {
+        Construction::Refused(r) => RepairAnswer::Refused(r),
+        Construction::Made(g) => {
+            let judged = judge_repair(
+                g,
+                from,
+                to,
+                limit,
+                steps,
+                firsts,
+                packet.len(),
+                output.len(),
+            );
+            match judged {
+                Judgement::Refused(r) => RepairAnswer::Refused(r),
+                Judgement::Passed => RepairAnswer::Told(conclude(
+                    g,
+                    from,
+                    to,
+                    limit,
+                    steps,
+                    firsts,
+                    packet,
+                    output,
+                )),
+            }
+        }
+    }
+}
+
+// The packet to publish from: what was received, its repaired copy, or an empty part of what was received.
+pub fn hand_back<'a>(received: &'a [u8], copy: &'a [u8], verdict: Verdict) -> &'a [u8]
+    ensures { λ r. ⌜ now r ≡ handedBack (said verdict) (now (received .entry)) (now (copy .entry)) ⌝ }
+{
+    match verdict {
+        Verdict::Intact => received,
+        Verdict::Repaired(_) => copy,
+        Verdict::Several(_, _) => &received[..0],
+        Verdict::None => &received[..0],
+    }
 }
