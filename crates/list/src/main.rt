@@ -49,7 +49,7 @@ fn print_page(records: &[u8], text: &mut [u8]) -> bool {
 }
 
 // Prints the page that follows the mark; `count` patterns came before it.
-fn turn(
+fn next_page(
     generator: u64,
     bits: usize,
     limit: usize,
@@ -103,7 +103,7 @@ fn print_list(
     let mut mark = Mark::Start;
     let mut count: u64 = 0;
     loop {
-        let led = turn(
+        let led = next_page(
             generator,
             bits,
             limit,
@@ -156,7 +156,36 @@ fn list_by(
     }
 }
 
-// The entries of a table for a degree of at most 14.
+// The same with tables in the first `size` entries.
+fn list_in(
+    generator: u64,
+    bits: usize,
+    limit: usize,
+    syndrome: u64,
+    size: usize,
+    steps: &mut [u16],
+    firsts: &mut [u16],
+)
+    requires { ⌜ (size ≤ length (now steps)) × (size ≤ length (now firsts)) ⌝ }
+{
+    list_by(
+        generator,
+        bits,
+        limit,
+        syndrome,
+        &mut steps[..size],
+        &mut firsts[..size],
+    );
+}
+
+// Room for a table of the largest degree that is listed, 14.
+fn table() -> [u16; 16384]
+    ensures { λ r. ⌜ 16384 ≡ length r ⌝ }
+{
+    [0; 16384]
+}
+
+// The entries of a table.
 fn entries(degree: u32) -> usize
     requires { ⌜ degree ≤ 14 ⌝ }
     ensures { λ r. ⌜ r ≤ 16384 ⌝ }
@@ -164,7 +193,7 @@ fn entries(degree: u32) -> usize
     1usize << degree
 }
 
-// Degrees above 14 are refused as unfit generators are.
+// Larger degrees are refused as unfit generators are.
 fn list(generator: u64, bits: usize, limit: usize, syndrome: u64) {
     let made = Generator::new(generator);
     match made {
@@ -175,15 +204,16 @@ fn list(generator: u64, bits: usize, limit: usize, syndrome: u64) {
                 return;
             }
             let size = entries(g.degree);
-            let mut steps = [0u16; 16384];
-            let mut firsts = [0u16; 16384];
-            list_by(
+            let mut steps = table();
+            let mut firsts = table();
+            list_in(
                 generator,
                 bits,
                 limit,
                 syndrome,
-                &mut steps[..size],
-                &mut firsts[..size],
+                size,
+                &mut steps,
+                &mut firsts,
             );
         }
     }
