@@ -1,21 +1,19 @@
 -- What an accepted page call does to the count and the mark: it writes what it counts, leaves the rest, and writes a
 -- record unless it ends the list.
 use mathlib.Core.Path.{_≡_, refl, sym, ap, _∙_}
-use mathlib.Core.Bool.{Bool, true, false}
-use mathlib.Core.List.{List, [], _∷_}
-use Prim.Native.Nat.{ℕ, _+_, _*_, _-_, _^_, _<_, _≤_}
+use mathlib.Core.Bool.{true, false}
+use mathlib.Core.List.{List, []}
+use Prim.Native.Nat.{ℕ, _+_, _-_, _^_, _<_, _≤_}
 use native.Mathlib.Omega.{arith}
-use lib.Dec.{ltb}
-use lib.ListN.{length, drop, length-drop}
+use lib.ListN.{length, length-drop}
 use borrow.Author.Tests.{lt-ltb}
-use Rattle.base.specs.Lists.{In, here, there}
-use Rattle.base.specs.Outcome.{Outcome, refused, accepted}
+use Rattle.base.specs.Lists.{here, there}
+use Rattle.base.specs.Outcome.{Outcome, accepted}
 use Rattle.base.proofs.Cases.{by-order}
 use Rattle.base.proofs.JudgeLaws.{judge-accepted, judge-value}
 use Rattle.poly.specs.Polynomial.{degree}
-use Rattle.packet.specs.Packet.{unfitLength}
 use Rattle.packet.proofs.PacketLaws.{fit-length}
-use Rattle.patterns.specs.Patterns.{Place, ended, after, placeOf}
+use Rattle.patterns.specs.Patterns.{Place, ended, after}
 use Rattle.patterns.specs.Marks.{remaining}
 use Rattle.patterns.specs.Pages.{fitting, Page, pageOf, pageBytes}
 use Rattle.patterns.proofs.SiftLaws.{sift-in}
@@ -23,7 +21,7 @@ use Rattle.patterns.proofs.CountLaws.{listing-fits}
 use Rattle.patterns.proofs.ListingLaws.{listing-sorted, listed-limit}
 use Rattle.patterns.proofs.PageLaws.{fitting-length, fitting-unless, page-fits, page-length, page-leaves, next-ended}
 use Rattle.patterns.proofs.SequenceLaws.{accepted-none}
-use Rattle.pages.specs.Conditions.{Request, pageConditions, unfitLimit, unfitOutput}
+use Rattle.pages.specs.Conditions.{Request, pageConditions, unfitOutput}
 use Rattle.patterns.specs.declared.Mark.{Mark}
 use Rattle.pages.specs.Calls.{requested, pageCall, pageLeft, pageResult, answered}
 use Rattle.pages.specs.declared.PageResult.{PageResult}

@@ -1,8 +1,7 @@
 -- `print_list` ends, since each turn that goes on leaves less of the list. Invariant: the count and the mark belong together.
 use borrow.Author.Needs.{needs}
 use native.Mathlib.Omega.{arith}
-use mathlib.Core.Path.{_≡_, refl, sym, ap, _∙_}
-use Prim.Native.Nat.{ℕ, _+_}
+use mathlib.Core.Path.{_≡_, refl, ap}
 use lib.ListN.{length}
 use Rattle.patterns.specs.Patterns.{placeOf}
 use Rattle.patterns.specs.Marks.{remaining}
