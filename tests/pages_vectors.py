@@ -285,7 +285,7 @@ def refused_at_the_edges():
     for table, place, by in product((0, 1), (0, 1, 2, 3, 17, 31, 32), (1, 32768)):
         group = Group(FIVE, change=(table, place, by))
         group.add(8, 2, 3, calls=1)
-    Group(CCITT, change=(1, 65535, 2)).add(16, 2, 3, calls=1)
+    Group(CCITT, change=(1, 65535, 2)).add(17, 2, 3, calls=1)
     Group(CCITT, change=(0, 65535, 2)).add(17, 2, 3, calls=1)
 
 

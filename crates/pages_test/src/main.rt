@@ -12,8 +12,7 @@ use patterns::Mark;
 use patterns::Pattern;
 use tables::TablesAnswer;
 use testkit::Reading;
-ghost use Prim.Native.Nat.{_^_, _<_, _≤_};
-ghost use lib.ListN.{length};
+ghost use Prim.Native.Nat.{_≤_};
 
 // What every call of a sequence is given.
 struct Setting {

@@ -1,9 +1,7 @@
 -- `cases` is safe and ends: the cases left fall, and the output keeps its length.
-use Prim.Native.Nat.{_-_, _≤_}
 use mathlib.Core.Path.{_≡_}
 use lib.ListN.{length}
 use borrow.Author.Needs.{needs}
-use native.Mathlib.Omega.{arith}
 use Rattle.pages_test.proofs.cases.Statement.{statement}
 use Rattle.pages_test.proofs.cases.Tie as tie
 

@@ -1,9 +1,7 @@
 -- `groups` is safe and ends: the groups left fall, and the lent slices keep their lengths.
-use Prim.Native.Nat.{_-_, _≤_}
 use mathlib.Core.Path.{_≡_}
 use lib.ListN.{length}
 use borrow.Author.Needs.{needs}
-use native.Mathlib.Omega.{arith}
 use Rattle.pages_test.proofs.groups.Statement.{statement}
 use Rattle.pages_test.proofs.groups.Tie as tie
 

@@ -1,9 +1,7 @@
 -- `print_positions` is safe and ends at the last position.
 use Prim.Native.Nat.{_-_, _≤_}
-use mathlib.Core.Path.{_≡_}
 use lib.ListN.{length}
 use borrow.Author.Needs.{needs}
-use native.Mathlib.Omega.{arith}
 use Rattle.pages_test.proofs.print_positions.Statement.{statement}
 use Rattle.pages_test.proofs.print_positions.Tie as tie
 

@@ -1,9 +1,8 @@
 -- `sequence` is safe and ends: the calls left fall, and the output keeps its length.
-use Prim.Native.Nat.{_-_, _≤_}
+use Prim.Native.Nat.{_-_}
 use mathlib.Core.Path.{_≡_}
 use lib.ListN.{length}
 use borrow.Author.Needs.{needs}
-use native.Mathlib.Omega.{arith}
 use Rattle.pages_test.proofs.sequence.Statement.{statement}
 use Rattle.pages_test.proofs.sequence.Tie as tie
 

@@ -1,9 +1,8 @@
 -- `sequences` is safe and ends: the syndromes left fall, and the output keeps its length.
-use Prim.Native.Nat.{_-_, _≤_}
+use Prim.Native.Nat.{_-_}
 use mathlib.Core.Path.{_≡_}
 use lib.ListN.{length}
 use borrow.Author.Needs.{needs}
-use native.Mathlib.Omega.{arith}
 use Rattle.pages_test.proofs.sequences.Statement.{statement}
 use Rattle.pages_test.proofs.sequences.Tie as tie
 
