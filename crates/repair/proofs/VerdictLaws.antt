@@ -1,0 +1,213 @@
+-- The verdict in document 01's words. For a listed pattern the flipped packet's remainder is 0, so that a passing range
+-- is as much as passing both checks; and since the list ascends, one member is one set and several are several sets.
+use mathlib.Core.Path.{_≡_, refl, sym, ap, _∙_}
+use mathlib.Core.Bool.{Bool, true, false, true≢false}
+use mathlib.Core.Logic.{_↔_}
+use mathlib.Core.List.{List, [], _∷_}
+use Prim.Native.Nat.{ℕ, zero, suc, _≤_, _<_}
+use native.Mathlib.Omega.{arith}
+use borrow.Author.Tests.{eq-eqb}
+use lib.Bits.{bitXor, xor-self}
+use lib.Dec.{eqb}
+use lib.ListN.{length}
+use Rattle.base.specs.Lists.{In, here, there, All, none, each}
+use Rattle.base.proofs.Cases.{by-test}
+use Rattle.poly.specs.Polynomial.{degree}
+use Rattle.poly.specs.Generators.{unfit}
+use Rattle.poly.proofs.GeneratorLaws.{fit-accepted}
+use Rattle.packet.specs.Packet.{Bytes, bits, remainder, flips}
+use Rattle.packet.proofs.FlipLaws.{remainder-flips}
+use Rattle.checksum.specs.Checksum.{passes}
+use Rattle.patterns.specs.Order.{before}
+use Rattle.patterns.specs.StrictOrder.{Sorted}
+use Rattle.patterns.specs.Listing.{Ascending, none, next, syndrome, sift}
+use Rattle.patterns.proofs.OrderLaws.{before-strict-total}
+use Rattle.patterns.proofs.MemberLaws.{in-nothing}
+use Rattle.patterns.proofs.SiftLaws.{sift-in, in-sift, sift-same}
+use Rattle.patterns.proofs.SortedLaws.{sorted-head, sorted-sift}
+use Rattle.patterns.proofs.ListingLaws.{listed-iff, listing-sorted}
+use Rattle.repair.specs.Verdicts.{passesBoth, packetList, candidates, Said, intact, repaired, several, nothing, settled, verdict, mended, output}
+use Rattle.repair.specs.Demand.{Leads, leading}
+
+-- ---- one, none or several members of an ascending list ----
+
+pub ascending-within : {l from : ℕ} {ps : List ℕ} → Ascending l from ps → All (λ (p : ℕ). p < l) ps
+ascending-within none = none
+ascending-within (next h k a) = each k (ascending-within a)
+
+pub only-one : {p : List ℕ} {xs : List (List ℕ)} → Sorted before xs → In p xs → ((q : List ℕ) → In q xs → q ≡ p) → xs ≡ p ∷ []
+only-one {xs = []} sorted h only = absurd (in-nothing h)
+only-one {xs = x ∷ []} sorted h only = ap (λ (q : List ℕ). q ∷ []) (only x (here refl))
+only-one {xs = x ∷ y ∷ ys} sorted h only =
+    let same : x ≡ y = only x (here refl) ∙ sym (only y (there (here refl))) in
+    let first : before x y ≡ true = sorted-head sorted y (here refl) in
+    absurd (true≢false (sym first ∙ ap (λ (q : List ℕ). before q y) same ∙ before-strict-total .irreflexive y))
+
+-- ---- the verdict by the candidates ----
+
+module _ (named : List ℕ) where
+  never-intact : (xs : List (List ℕ)) → settled xs named ≡ intact → ⊥
+  never-intact [] h = let z : _≡_ {A = ℕ} 0 1 = cc in omega arith
+  never-intact (x ∷ []) h = let z : _≡_ {A = ℕ} 0 1 = cc in omega arith
+  never-intact (x ∷ y ∷ ys) h = let z : _≡_ {A = ℕ} 0 1 = cc in omega arith
+
+  nothing-none : (xs : List (List ℕ)) → settled xs named ≡ nothing → xs ≡ []
+  nothing-none [] h = refl
+  nothing-none (x ∷ []) h = absurd (let z : _≡_ {A = ℕ} 0 1 = cc in omega arith)
+  nothing-none (x ∷ y ∷ ys) h = absurd (let z : _≡_ {A = ℕ} 0 1 = cc in omega arith)
+
+  repaired-one : (xs : List (List ℕ)) (p : List ℕ) → settled xs named ≡ repaired p → xs ≡ p ∷ []
+  repaired-one [] p h = absurd (let z : _≡_ {A = ℕ} 0 1 = cc in omega arith)
+  repaired-one (x ∷ []) p h = let e : x ≡ p = cc in ap (λ (q : List ℕ). q ∷ []) e
+  repaired-one (x ∷ y ∷ ys) p h = absurd (let z : _≡_ {A = ℕ} 0 1 = cc in omega arith)
+
+  several-more : (xs : List (List ℕ)) (k : ℕ) (q : List ℕ) → settled xs named ≡ several k q → (2 ≤ length xs) × (k ≡ length xs) × (q ≡ named)
+  several-more [] k q h = absurd (let z : _≡_ {A = ℕ} 0 1 = cc in omega arith)
+  several-more (x ∷ []) k q h = absurd (let z : _≡_ {A = ℕ} 0 1 = cc in omega arith)
+  several-more (x ∷ y ∷ ys) k q h = (omega arith, cc, cc)
+
+  more-several : (xs : List (List ℕ)) → 2 ≤ length xs → settled xs named ≡ several (length xs) named
+  more-several [] h = absurd (omega arith)
+  more-several (x ∷ []) h = absurd (omega arith)
+  more-several (x ∷ y ∷ ys) h = refl
+
+  -- what is said of a packet that does not pass, and what is said at all
+  unpassed : (g a e limit : ℕ) (s : List ℕ) → passesBoth g a e s ≡ false → verdict g a e limit s named ≡ settled (candidates g a e limit s) named
+  unpassed g a e limit s h = rw h
+
+  unless-intact : (g a e limit : ℕ) (s : List ℕ) (v : Said) → (v ≡ intact → ⊥) → verdict g a e limit s named ≡ v
+      → (passesBoth g a e s ≡ false) × (settled (candidates g a e limit s) named ≡ v)
+  unless-intact g a e limit s v other h =
+      by-test (passesBoth g a e s) (λ t. absurd (other (sym (rw t at h)))) (λ t. (t, rw t at h))
+
+  -- intact exactly when the packet passes both checks
+  pub verdict-intact : (g a e limit : ℕ) (s : List ℕ) → verdict g a e limit s named ≡ intact ↔ (passesBoth g a e s ≡ true)
+  verdict-intact g a e limit s = (
+    λ h. by-test (passesBoth g a e s) (λ t. t) (λ t. absurd (never-intact (candidates g a e limit s) (rw t at h))),
+    λ h. rw h,
+  )
+
+  -- the output is the flipped packet where the verdict is a repair, and stays as it was where it is none
+  pub output-repaired : (g a e limit : ℕ) (s p out : List ℕ) → verdict g a e limit s named ≡ repaired p → output g a e limit s out ≡ flips s p
+  output-repaired g a e limit s p out h =
+      let r = unless-intact g a e limit s (repaired p) (λ k. let z : _≡_ {A = ℕ} 0 1 = cc in omega arith) h in
+      rw (r .0, repaired-one (candidates g a e limit s) p (r .1))
+
+  pub output-unchanged : (g a e limit : ℕ) (s out : List ℕ) → ((p : List ℕ) → verdict g a e limit s named ≡ repaired p → ⊥) → output g a e limit s out ≡ out
+  output-unchanged g a e limit s out other =
+      by-test (passesBoth g a e s) (λ t. rw t)
+      (λ t. rw t (unmended (candidates g a e limit s) (λ p h. other p (unpassed g a e limit s t ∙ h))))
+    where
+      unmended : (xs : List (List ℕ)) → ((p : List ℕ) → settled xs named ≡ repaired p → ⊥) → mended xs s out ≡ out
+      unmended [] f = refl
+      unmended (x ∷ []) f = absurd (f x refl)
+      unmended (x ∷ y ∷ ys) f = refl
+
+-- ---- which patterns lead to a passing packet ----
+
+module _ (g a e limit : ℕ) (s : List ℕ) (fit : unfit g ≡ false) (bs : Bytes s) where
+  -- flipping a listed pattern leaves remainder 0
+  pub listed-remainder : (ps : List ℕ) → In ps (packetList g limit s) → remainder g (flips s ps) ≡ 0
+  unfolding syndrome
+  listed-remainder ps h =
+      let l = listed-iff (degree g) g (bits s) limit (remainder g s) ps .0 h in
+      remainder-flips g s ps (fit-accepted g fit .divisor) (ascending-within (l .0)) bs
+      ∙ ap (bitXor (remainder g s)) (l .2)
+      ∙ xor-self (remainder g s)
+
+  -- so that passing the range is passing both
+  pub listed-passes : (ps : List ℕ) → In ps (packetList g limit s) → passesBoth g a e (flips s ps) ≡ passes a e (flips s ps)
+  unfolding passesBoth
+  listed-passes ps h = simp (eq-eqb _ _ (listed-remainder ps h))
+
+  pub candidates-leading : candidates g a e limit s ≡ leading g a e limit s
+  unfolding candidates
+  candidates-leading = sift-same _ (λ ps. passesBoth g a e (flips s ps)) (packetList g limit s) (λ ps h. sym (listed-passes ps h))
+
+  -- a pattern leads to a passing packet exactly when it is a candidate
+  pub candidate-leads : (ps : List ℕ) → In ps (candidates g a e limit s) → Leads g a e limit s ps
+  candidate-leads ps h =
+      let r = sift-in (λ ps. passesBoth g a e (flips s ps)) (packetList g limit s) (rw candidates-leading at h) in
+      record { listed = r .0; passing = r .1 }
+
+  pub leads-candidate : (ps : List ℕ) → Leads g a e limit s ps → In ps (candidates g a e limit s)
+  leads-candidate ps l = rw candidates-leading (in-sift (λ ps. passesBoth g a e (flips s ps)) (l .listed) (l .passing))
+
+  pub candidates-sorted : Sorted before (candidates g a e limit s)
+  unfolding candidates
+  candidates-sorted = sorted-sift _ (listing-sorted (degree g) g (bits s) limit (remainder g s))
+
+  -- ---- the verdict on a packet that does not pass ----
+
+  -- none exactly when no listed set leads to a passing packet
+  pub verdict-nothing : (named : List ℕ) → verdict g a e limit s named ≡ nothing ↔ ((passesBoth g a e s ≡ false) × ((ps : List ℕ) → Leads g a e limit s ps → ⊥))
+  verdict-nothing named = (
+    λ h.
+        let r = unless-intact named g a e limit s nothing (λ k. let z : _≡_ {A = ℕ} 0 1 = cc in omega arith) h in
+        (r .0, λ ps l. in-nothing (rw (nothing-none named (candidates g a e limit s) (r .1)) at (leads-candidate ps l))),
+    λ h. unpassed named g a e limit s (h .0) ∙ ap (λ (xs : List (List ℕ)). settled xs named) (no-member (candidates g a e limit s) (λ ps i. h .1 ps (candidate-leads ps i))),
+  )
+    where
+      no-member : (xs : List (List ℕ)) → ((ps : List ℕ) → In ps xs → ⊥) → xs ≡ []
+      no-member [] h = refl
+      no-member (x ∷ xs) h = absurd (h x (here refl))
+
+  -- repaired exactly when just one does, and with that one
+  pub verdict-repaired : (named p : List ℕ) → verdict g a e limit s named ≡ repaired p
+      ↔ ((passesBoth g a e s ≡ false) × Leads g a e limit s p × ((q : List ℕ) → Leads g a e limit s q → q ≡ p))
+  verdict-repaired named p = (
+    λ h.
+        let r = unless-intact named g a e limit s (repaired p) (λ k. let z : _≡_ {A = ℕ} 0 1 = cc in omega arith) h in
+        let one = repaired-one named (candidates g a e limit s) p (r .1) in
+        (r .0, candidate-leads p (rw one (here refl)), λ q l. single (rw one at (leads-candidate q l))),
+    λ h.
+        unpassed named g a e limit s (h .0)
+        ∙ ap (λ (xs : List (List ℕ)). settled xs named) (only-one candidates-sorted (leads-candidate p (h .1)) (λ q i. h .2 q (candidate-leads q i))),
+  )
+    where
+      single : {q r : List ℕ} → In q (r ∷ []) → q ≡ r
+      single (here d) = d
+      single (there i) = absurd (in-nothing i)
+
+  -- several exactly when more than one does, with their number, and with the pattern that it names
+  pub verdict-several : (named : List ℕ) (k : ℕ) (q : List ℕ) → verdict g a e limit s named ≡ several k q
+      ↔ ((passesBoth g a e s ≡ false) × (2 ≤ length (leading g a e limit s)) × (k ≡ length (leading g a e limit s)) × (q ≡ named))
+  verdict-several named k q = (
+    λ h.
+        let r = unless-intact named g a e limit s (several k q) (λ j. let z : _≡_ {A = ℕ} 0 1 = cc in omega arith) h in
+        let m = rw candidates-leading at (several-more named (candidates g a e limit s) k q (r .1)) in
+        (r .0, m .0, m .1, m .2),
+    λ h.
+        unpassed named g a e limit s (h .0)
+        ∙ ap (λ (xs : List (List ℕ)). settled xs named) candidates-leading
+        ∙ more-several named (leading g a e limit s) (h .1) ∙ (let d = h .2 in let n = h .3 in cc),
+  )
+
+  -- more than one is two that differ
+  pub two-lead : 2 ≤ length (leading g a e limit s)
+      ↔ ((p : List ℕ) × (q : List ℕ) × Leads g a e limit s p × Leads g a e limit s q × (p ≡ q → ⊥))
+  two-lead = (
+    λ h. two (candidates g a e limit s) candidates-sorted (rw candidates-leading h) (λ ps i. candidate-leads ps i),
+    λ r. rw (← candidates-leading) (differ (candidates g a e limit s) (leads-candidate (r .0) (r .2)) (leads-candidate (r .1) (r .3)) (r .4)),
+  )
+    where
+      two : (xs : List (List ℕ)) → Sorted before xs → 2 ≤ length xs → ((ps : List ℕ) → In ps xs → Leads g a e limit s ps)
+          → (p : List ℕ) × (q : List ℕ) × Leads g a e limit s p × Leads g a e limit s q × (p ≡ q → ⊥)
+      two [] sorted h leads = absurd (omega arith)
+      two (x ∷ []) sorted h leads = absurd (omega arith)
+      two (x ∷ y ∷ ys) sorted h leads = (
+        x,
+        y,
+        leads x (here refl),
+        leads y (there (here refl)),
+        λ d.
+            true≢false
+            (sym (sorted-head sorted y (here refl)) ∙ ap (λ (q : List ℕ). before q y) d ∙ before-strict-total .irreflexive y),
+      )
+
+      differ : (xs : List (List ℕ)) {p q : List ℕ} → In p xs → In q xs → (p ≡ q → ⊥) → 2 ≤ length xs
+      differ [] i j other = absurd (in-nothing i)
+      differ (x ∷ []) (here d) (here f) other = absurd (other (d ∙ sym f))
+      differ (x ∷ []) (here d) (there j) other = absurd (in-nothing j)
+      differ (x ∷ []) (there i) j other = absurd (in-nothing i)
+      differ (x ∷ y ∷ ys) i j other = omega arith
