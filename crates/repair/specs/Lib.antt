@@ -2,3 +2,5 @@ pub mod Verdicts
 pub mod Calls
 pub mod Demand
 pub mod Worked
+pub mod Steps
+pub mod Judged
