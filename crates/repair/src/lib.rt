@@ -29,6 +29,7 @@ ghost use Rattle.repair.specs.Calls.{
   AnswerNamesWell,
   repairOutput,
   handedBack,
+  HandedItself,
 };
 
 pub enum Verdict {
@@ -490,7 +491,8 @@ pub fn repair(
 
 // The packet to publish from: what was received, its repaired copy, or an empty part of what was received.
 pub fn hand_back<'a>(received: &'a [u8], copy: &'a [u8], verdict: Verdict) -> &'a [u8]
-    ensures { λ r. ⌜ now r ≡ handedBack (said verdict) (now (received .entry)) (now (copy .entry)) ⌝ }
+    ensures bytes { λ r. ⌜ now r ≡ handedBack (said verdict) (now (received .entry)) (now (copy .entry)) ⌝ }
+    ensures itself { λ r. ⌜ HandedItself (said verdict) r (received .entry) (copy .entry) ⌝ }
 {
     match verdict {
         Verdict::Intact => received,
