@@ -17,7 +17,8 @@ use Rattle.base.proofs.Cases.{by-order, by-test}
 use Rattle.base.proofs.XorLaws.{xor-low}
 use Rattle.packet.specs.Packet.{Bytes, bits, bitAt, flip, flips}
 use Rattle.packet.proofs.FlipLaws.{flip-length, flips-bytes}
-use Rattle.checksum.specs.Checksum.{range, passes, total, multiple, share, weight, setWeight, clearWeight}
+use Rattle.checksum.specs.Checksum.{range, passes}
+use Rattle.checksum.specs.Totals.{total, multiple, share, weight, setWeight, clearWeight}
 use Rattle.checksum.proofs.RangeLaws.{total-range-set, passes-total}
 
 -- one bit of a number
