@@ -26,7 +26,8 @@ use Rattle.patterns.specs.Listing.{Ascending, none, next, syndrome}
 use Rattle.patterns.proofs.ListingLaws.{ascending-lower, listed-iff}
 use Rattle.repair.specs.Verdicts.{passesBoth, repaired, nothing, verdict, output}
 use Rattle.repair.specs.Demand.{Leads}
-use Rattle.repair.proofs.VerdictLaws.{ascending-within, verdict-nothing, verdict-repaired, output-repaired}
+use Rattle.repair.proofs.WeighLaws.{ascending-all}
+use Rattle.repair.proofs.VerdictLaws.{verdict-nothing, verdict-repaired, output-repaired}
 
 -- ---- the bits that differ are a set of positions ----
 
@@ -46,7 +47,7 @@ difference-ascending s t = differing-ascending s t (bits s) 0 (bits s) (omega ar
 -- flipping a set of positions twice changes nothing
 flips-twice : (t ps : List ℕ) → Bytes t → Ascending (bits t) 0 ps → flips (flips t ps) ps ≡ t
 flips-twice t ps bt h =
-    let w = ascending-within h in
+    let w = ascending-all h in
     let bs = flips-bytes t ps w bt in
     let v : All (λ (p : ℕ). p < bits (flips t ps)) ps = rw (flips-length t ps) w in
     let e : polynomial (flips (flips t ps) ps) ≡ polynomial t =
@@ -68,7 +69,7 @@ module _ (g a e limit : ℕ) (s : List ℕ) (fit : unfit g ≡ false) (bs : Byte
   unfolding syndrome
   set-leads t ps h few made pass =
       let cancels : bitXor (remainder g s) (syndrome (degree g) g ps) ≡ 0 =
-      sym (remainder-flips g s ps (fit-accepted g fit .divisor) (ascending-within h) bs) ∙ ap (remainder g) made ∙ passes-remainder t pass in
+      sym (remainder-flips g s ps (fit-accepted g fit .divisor) (ascending-all h) bs) ∙ ap (remainder g) made ∙ passes-remainder t pass in
       record {
         listed = listed-iff (degree g) g (bits s) limit (remainder g s) ps .1 (h, few, sym (xor-zero-equal _ _ cancels));
         passing = rw made pass;

@@ -4,12 +4,12 @@ use mathlib.Core.Path.{_≡_, refl, sym, ap, _∙_}
 use mathlib.Core.Bool.{true, false, true≢false}
 use mathlib.Core.Logic.{_↔_}
 use mathlib.Core.List.{List, [], _∷_}
-use Prim.Native.Nat.{ℕ, _≤_, _<_}
+use Prim.Native.Nat.{ℕ, _≤_}
 use native.Mathlib.Omega.{arith}
 use borrow.Author.Tests.{eq-eqb}
 use lib.Bits.{bitXor, xor-self}
 use lib.ListN.{length}
-use Rattle.base.specs.Lists.{In, here, there, All, none, each}
+use Rattle.base.specs.Lists.{In, here, there}
 use Rattle.base.proofs.Cases.{by-test}
 use Rattle.poly.specs.Polynomial.{degree}
 use Rattle.poly.specs.Generators.{unfit}
@@ -19,7 +19,7 @@ use Rattle.packet.proofs.FlipLaws.{remainder-flips}
 use Rattle.checksum.specs.Checksum.{passes}
 use Rattle.patterns.specs.Order.{before}
 use Rattle.patterns.specs.StrictOrder.{Sorted}
-use Rattle.patterns.specs.Listing.{Ascending, none, next, syndrome}
+use Rattle.patterns.specs.Listing.{syndrome}
 use Rattle.patterns.proofs.OrderLaws.{before-strict-total}
 use Rattle.patterns.proofs.MemberLaws.{in-nothing}
 use Rattle.patterns.proofs.SiftLaws.{sift-in, in-sift, sift-same}
@@ -27,12 +27,9 @@ use Rattle.patterns.proofs.SortedLaws.{sorted-head, sorted-sift}
 use Rattle.patterns.proofs.ListingLaws.{listed-iff, listing-sorted}
 use Rattle.repair.specs.Verdicts.{passesBoth, packetList, candidates, Said, intact, repaired, several, nothing, settled, verdict, mended, output}
 use Rattle.repair.specs.Demand.{Leads, leading}
+use Rattle.repair.proofs.WeighLaws.{ascending-all}
 
 -- ---- one, none or several members of an ascending list ----
-
-pub ascending-within : {l from : ℕ} {ps : List ℕ} → Ascending l from ps → All (λ (p : ℕ). p < l) ps
-ascending-within none = none
-ascending-within (next h k a) = each k (ascending-within a)
 
 no-member : (xs : List (List ℕ)) → ((p : List ℕ) → In p xs → ⊥) → xs ≡ []
 no-member [] h = refl
@@ -147,7 +144,7 @@ module _ (g a e limit : ℕ) (s : List ℕ) (fit : unfit g ≡ false) (bs : Byte
   unfolding syndrome
   listed-remainder ps h =
       let l = listed-iff (degree g) g (bits s) limit (remainder g s) ps .0 h in
-      remainder-flips g s ps (fit-accepted g fit .divisor) (ascending-within (l .0)) bs
+      remainder-flips g s ps (fit-accepted g fit .divisor) (ascending-all (l .0)) bs
       ∙ ap (bitXor (remainder g s)) (l .2)
       ∙ xor-self (remainder g s)
 
