@@ -50,6 +50,12 @@ module _ (g l a e f : ℕ) {r : Construction} (m : construction r ≡ admitted g
     by-none : unfitRange (v .degree) l a e ≡ false → unfitField a e f ≡ false → judge (stampConditions g l a e f) turned done ≡ done
     by-none p q = past ∙ simp (← degree-is g l m h, p, q)
 
+-- what follows from the test u of the field
+pub record Past (g a e f : ℕ) (s : List ℕ) (u : Bool) : Type 0 where
+  pub turned-down : u ≡ true → (refused 10 ≡ stampCall g a e f s) × (s ≡ stampPacket g a e f s)
+  pub fits : u ≡ false → (a ≤ f) × (f + 2 ≤ e) × (e ≤ length s)
+  pub filled : u ≡ false → (s′ : List ℕ) → s′ ≡ stamped a e f s → (accepted tt ≡ stampCall g a e f s) × (s′ ≡ stampPacket g a e f s)
+
 -- the answer and the packet, by the outcome of each test
 module _ (g a e f : ℕ) (s : List ℕ) {r : Construction} (m : construction r ≡ admitted g (bits s)) where
   pub stamp-packet : {q : Refusal} → r ≡ Refused q → (refused (number q) ≡ stampCall g a e f s) × (s ≡ stampPacket g a e f s)
@@ -61,19 +67,16 @@ module _ (g a e f : ℕ) (s : List ℕ) {r : Construction} (m : construction r �
         let y = sym range ∙ p in
         (sym (by-range g _ a e f m refused (accepted tt) h y), sym (by-range g _ a e f m (λ _. s) (stamped a e f s) h y))
 
-    module _ (p : t ≡ false) {u : Bool} (field : u ≡ unfitField a e f) where
-      pub stamp-field : u ≡ true → (refused 10 ≡ stampCall g a e f s) × (s ≡ stampPacket g a e f s)
-      stamp-field q =
-          let x = sym range ∙ p in
-          let y = sym field ∙ q in
-          (sym (by-field g _ a e f m refused (accepted tt) h x y), sym (by-field g _ a e f m (λ _. s) (stamped a e f s) h x y))
-
-      -- what the writing rests on
-      pub stamp-fits : u ≡ false → (a ≤ f) × (f + 2 ≤ e) × (e ≤ length s)
-      stamp-fits q = omega (arith, fit-range _ (bits s) a e (sym range ∙ p), fit-field a e f (sym field ∙ q))
-
-      pub stamp-done : u ≡ false → (s′ : List ℕ) → s′ ≡ stamped a e f s → (accepted tt ≡ stampCall g a e f s) × (s′ ≡ stampPacket g a e f s)
-      stamp-done q s′ w =
-          let x = sym range ∙ p in
-          let y = sym field ∙ q in
-          (sym (by-none g _ a e f m refused (accepted tt) h x y), w ∙ sym (by-none g _ a e f m (λ _. s) (stamped a e f s) h x y))
+    -- once the range is accepted, by the test of the field
+    pub stamp-past : t ≡ false → {u : Bool} → u ≡ unfitField a e f → Past g a e f s u
+    stamp-past p field =
+        let x = sym range ∙ p in
+        record {
+          turned-down = λ q.
+              let y = sym field ∙ q in
+              (sym (by-field g _ a e f m refused (accepted tt) h x y), sym (by-field g _ a e f m (λ _. s) (stamped a e f s) h x y));
+          fits = λ q. omega (arith, fit-range _ (bits s) a e x, fit-field a e f (sym field ∙ q));
+          filled = λ q s′ w.
+              let y = sym field ∙ q in
+              (sym (by-none g _ a e f m refused (accepted tt) h x y), w ∙ sym (by-none g _ a e f m (λ _. s) (stamped a e f s) h x y));
+        }

@@ -15,33 +15,33 @@ use Rattle.checksum.specs.Checksum.{range, passes, total, multiple, plac
 use Rattle.checksum.proofs.SumLaws.{total-one, total-two, sum-multiple}
 
 -- the elements of a part are bytes, and so is what is written
-pub bytes-drop : (a : ℕ) (s : List ℕ) → Bytes s → Bytes (drop a s)
-bytes-drop a s b i = rw getD-drop (b (a + i))
+pub drop-bytes : (a : ℕ) (s : List ℕ) → Bytes s → Bytes (drop a s)
+drop-bytes a s b i = rw getD-drop (b (a + i))
 
-pub bytes-take : (n : ℕ) (s : List ℕ) → Bytes s → Bytes (take n s)
-bytes-take n s b i =
+pub take-bytes : (n : ℕ) (s : List ℕ) → Bytes s → Bytes (take n s)
+take-bytes n s b i =
     by-order i n (λ l. rw getD-take (b i))
     (λ g. rw (List·getD-eq-default (take n s) 0 {n = i} (simp length-take (omega arith))) (omega arith))
 
-pub bytes-set : (s : List ℕ) (j v : ℕ) → Bytes s → v < 256 → Bytes (set s j v)
-bytes-set [] j v b h i = b i
-bytes-set (x ∷ s) zero v b h zero = h
-bytes-set (x ∷ s) zero v b h (suc i) = b (suc i)
-bytes-set (x ∷ s) (suc j) v b h zero = b 0
-bytes-set (x ∷ s) (suc j) v b h (suc i) = bytes-set s j v (λ k. b (suc k)) h i
+pub set-bytes : (s : List ℕ) (j v : ℕ) → Bytes s → v < 256 → Bytes (set s j v)
+set-bytes [] j v b h i = b i
+set-bytes (x ∷ s) zero v b h zero = h
+set-bytes (x ∷ s) zero v b h (suc i) = b (suc i)
+set-bytes (x ∷ s) (suc j) v b h zero = b 0
+set-bytes (x ∷ s) (suc j) v b h (suc i) = set-bytes s j v (λ k. b (suc k)) h i
 
-pub bytes-range : (a e : ℕ) (s : List ℕ) → Bytes s → Bytes (range a e s)
+pub range-bytes : (a e : ℕ) (s : List ℕ) → Bytes s → Bytes (range a e s)
 unfolding range
-bytes-range a e s b = bytes-take (e - a) (drop a s) (bytes-drop a s b)
+range-bytes a e s b = take-bytes (e - a) (drop a s) (drop-bytes a s b)
 
 -- the second check, decided from the plain total
 pub passes-total : (a e : ℕ) (s : List ℕ) → Bytes s → passes a e s ≡ multiple (total (range a e s))
 unfolding passes
-passes-total a e s b = sum-multiple (range a e s) (bytes-range a e s b)
+passes-total a e s b = sum-multiple (range a e s) (range-bytes a e s b)
 
-pub length-range : (a e : ℕ) (s : List ℕ) → e ≤ length s → length (range a e s) ≡ e - a
+pub range-length : (a e : ℕ) (s : List ℕ) → e ≤ length s → length (range a e s) ≡ e - a
 unfolding range
-length-range a e s h = simp (length-take, length-drop) (omega arith)
+range-length a e s h = simp (length-take, length-drop) (omega arith)
 
 pub place-even : (i : ℕ) → i % 2 ≡ 0 → place i ≡ 256
 unfolding place
@@ -113,5 +113,5 @@ total-range-set a e i v s h =
     by-order i e
     (λ l.
     rw (share-within a e i g l, range-within a e i v s g l, ← getD-range a e i s g l)
-    (total-set (range a e s) (i - a) v (omega (arith, length-range a e s h))))
+    (total-set (range a e s) (i - a) v (omega (arith, range-length a e s h))))
     (λ m. rw (share-above a e i m, range-above a e i v s g m) (omega arith)))

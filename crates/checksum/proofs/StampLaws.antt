@@ -13,7 +13,7 @@ use Rattle.base.proofs.Cases.{by-order}
 use Rattle.packet.specs.Packet.{Bytes, bits}
 use Rattle.checksum.specs.Checksum.{sumOf, range, passes, total, norm, multiple, share, unfitRange, unfitField, written, stamped}
 use Rattle.checksum.proofs.SumLaws.{sum-norm, norm-zero, norm-positive, multiple-positive}
-use Rattle.checksum.proofs.RangeLaws.{bytes-set, bytes-range, passes-total, total-range-set, share-within, place-even, place-odd}
+use Rattle.checksum.proofs.RangeLaws.{set-bytes, range-bytes, passes-total, total-range-set, share-within, place-even, place-odd}
 use Rattle.checksum.proofs.ConditionLaws.{FitField, fit-range, fit-field}
 
 pub written-is : (f v : ℕ) (s : List ℕ) → written f v s ≡ set (set s f (v / 256)) (f + 1) (v % 256)
@@ -31,13 +31,13 @@ written-again f u v s =
     ∙ set-set (set (set s f (u / 256)) f (v / 256)) (f + 1) (u % 256) (v % 256)
     ∙ ap (λ (l : List ℕ). set l (f + 1) (v % 256)) (set-set s f (u / 256) (v / 256))
 
-pub length-written : (f v : ℕ) (s : List ℕ) → length (written f v s) ≡ length s
+pub written-length : (f v : ℕ) (s : List ℕ) → length (written f v s) ≡ length s
 unfolding written
-length-written f v s = simp length-set
+written-length f v s = simp length-set
 
-pub bytes-written : (f v : ℕ) (s : List ℕ) → Bytes s → v < 65536 → Bytes (written f v s)
+pub written-bytes : (f v : ℕ) (s : List ℕ) → Bytes s → v < 65536 → Bytes (written f v s)
 unfolding written
-bytes-written f v s b h = bytes-set (set s f (v / 256)) (f + 1) (v % 256) (bytes-set s f (v / 256) b (omega arith)) (omega arith)
+written-bytes f v s b h = set-bytes (set s f (v / 256)) (f + 1) (v % 256) (set-bytes s f (v / 256) b (omega arith)) (omega arith)
 
 -- the steps of a stamp: the field cleared, the range summed, the field written
 pub stamp-steps : (a e f r : ℕ) (s z y : List ℕ)
@@ -67,9 +67,9 @@ module _ (a e f : ℕ) (s : List ℕ) (fit : FitField a e f) (he : e ≤ length 
   total-written : (v : ℕ) → total (range a e (written f v s)) ≡ total (range a e (written f 0 s)) + v
   total-written v =
       let z = written f 0 s in
-      let up = rw (share-high, high-cleared f s (omega arith)) at (total-range-set a e f (v / 256) z (rw (length-written f 0 s) he)) in
+      let up = rw (share-high, high-cleared f s (omega arith)) at (total-range-set a e f (v / 256) z (rw (written-length f 0 s) he)) in
       let down =
-      rw (share-low, low-cleared f (v / 256) s (omega arith)) at (total-range-set a e (f + 1) (v % 256) (set z f (v / 256)) (simp (length-set, length-written) he)) in
+      rw (share-low, low-cleared f (v / 256) s (omega arith)) at (total-range-set a e (f + 1) (v % 256) (set z f (v / 256)) (simp (length-set, written-length) he)) in
       ap (λ (l : List ℕ). total (range a e l)) (sym (written-again f 0 v s) ∙ written-is f v z) ∙ omega (arith, up, down)
 
 -- a total with what it lacks is a positive multiple of FFFFh
@@ -83,13 +83,13 @@ complete t =
     let z : t ≡ 0 = omega arith in
     ap (λ (x : ℕ). multiple (x + (65535 - norm x))) z ∙ ap (λ (x : ℕ). multiple (0 + (65535 - x))) norm-zero ∙ multiple-positive 65535 (omega arith))
 
-pub length-stamped : (a e f : ℕ) (s : List ℕ) → length (stamped a e f s) ≡ length s
+pub stamped-length : (a e f : ℕ) (s : List ℕ) → length (stamped a e f s) ≡ length s
 unfolding stamped
-length-stamped a e f s = length-written f _ s
+stamped-length a e f s = written-length f _ s
 
-pub bytes-stamped : (a e f : ℕ) (s : List ℕ) → Bytes s → Bytes (stamped a e f s)
+pub stamped-bytes : (a e f : ℕ) (s : List ℕ) → Bytes s → Bytes (stamped a e f s)
 unfolding stamped
-bytes-stamped a e f s b = bytes-written f _ s b (omega arith)
+stamped-bytes a e f s b = written-bytes f _ s b (omega arith)
 
 pub stamp-passes : (n a e f : ℕ) (s : List ℕ) → Bytes s → unfitRange n (bits s) a e ≡ false → unfitField a e f ≡ false
     → passes a e (stamped a e f s) ≡ true
@@ -98,7 +98,7 @@ stamp-passes n a e f s b hr hf =
     let fr = fit-range n (bits s) a e hr in
     let he : e ≤ length s = omega arith in
     let z = written f 0 s in
-    let bz = bytes-range a e z (bytes-written f 0 s b (omega arith)) in
-    passes-total a e _ (bytes-stamped a e f s b)
+    let bz = range-bytes a e z (written-bytes f 0 s b (omega arith)) in
+    passes-total a e _ (stamped-bytes a e f s b)
     ∙ ap multiple (total-written a e f s (fit-field a e f hf) he (65535 - sumOf (range a e z)) ∙ ap (λ (x : ℕ). total (range a e z) + (65535 - x)) (sum-norm (range a e z) bz))
     ∙ complete (total (range a e z))

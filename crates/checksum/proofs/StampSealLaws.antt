@@ -21,9 +21,9 @@ use Rattle.packet.proofs.PacketLaws.{bytes-take}
 use Rattle.packet.proofs.SealLaws.{sealed-length, sealed-bytes, sealed-high, sealed-remainder}
 use Rattle.checksum.specs.Checksum.{sumOf, range, passes, stamped}
 use Rattle.checksum.specs.Calls.{stampConditions, stampCall, stampPacket}
-use Rattle.checksum.proofs.RangeLaws.{bytes-drop}
+use Rattle.checksum.proofs.RangeLaws.{drop-bytes}
 use Rattle.checksum.proofs.ConditionLaws.{FitRange, fit-range}
-use Rattle.checksum.proofs.StampLaws.{length-stamped, bytes-stamped, stamp-passes}
+use Rattle.checksum.proofs.StampLaws.{stamped-length, stamped-bytes, stamp-passes}
 
 -- the first bytes, read off the polynomial
 polynomial-front : (e : ℕ) (s : List ℕ) → Bytes s → polynomial s / 2 ^ (8 * (length s - e)) ≡ polynomial (take e s)
@@ -31,7 +31,7 @@ polynomial-front e s b =
     let rest = drop e s in
     let count : 8 * length rest ≡ 8 * (length s - e) = ap (λ (x : ℕ). 8 * x) (length-drop e s) in
     let power : 256 ^ length rest ≡ 2 ^ (8 * (length s - e)) = byte-power (length rest) ∙ ap (λ (x : ℕ). 2 ^ x) count in
-    let small : polynomial rest < 2 ^ (8 * (length s - e)) = rw power at (polynomial-lt rest (bytes-drop e s b)) in
+    let small : polynomial rest < 2 ^ (8 * (length s - e)) = rw power at (polynomial-lt rest (drop-bytes e s b)) in
     let split : polynomial s ≡ polynomial (take e s) * 2 ^ (8 * (length s - e)) + polynomial rest =
     ap polynomial (sym (take-append-drop e s))
     ∙ polynomial-append (take e s) rest
@@ -79,7 +79,7 @@ same-passes a e s t h = ap (λ (l : List ℕ). eqb (sumOf l) 65535) h
 seal-stamped : (g a e f : ℕ) (s : List ℕ) → unfit g ≡ false → unfitLength (degree g) (bits s) ≡ false
     → sealPacket g (stamped a e f s) ≡ sealed g (stamped a e f s)
 seal-stamped g a e f s hg hl =
-    let len : unfitLength (degree g) (bits (stamped a e f s)) ≡ false = rw (length-stamped a e f s) hl in
+    let len : unfitLength (degree g) (bits (stamped a e f s)) ≡ false = rw (stamped-length a e f s) hl in
     simp (hg, len)
 
 -- stamped and then sealed, a packet passes both checks
@@ -91,8 +91,8 @@ stamp-seal-passes g a e f s b h =
     let lengths = rest-of clear in
     let ranges = rest-of lengths in
     let d = fit-accepted g (first-of clear) .divisor in
-    let same = length-stamped a e f s in
-    let bt = bytes-stamped a e f s b in
+    let same = stamped-length a e f s in
+    let bt = stamped-bytes a e f s b in
     let fit = fit-range (degree g) (bits s) a e (first-of ranges) in
     let fit-t : FitRange (degree g) (bits t) a e = rw same fit in
     let long : degree g ≤ bits t = omega arith in

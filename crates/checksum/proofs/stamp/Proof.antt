@@ -2,7 +2,7 @@
 use native.Mathlib.Omega.{arith}
 use borrow.Author.Needs.{needs}
 use Rattle.packet.specs.Packet.{bits}
-use Rattle.checksum.proofs.CallLaws.{stamp-bounds, stamp-packet, stamp-range, stamp-field, stamp-fits, stamp-done}
+use Rattle.checksum.proofs.CallLaws.{Past, stamp-bounds, stamp-packet, stamp-range, stamp-past}
 use Rattle.checksum.proofs.stamp.Statement.{statement}
 use Rattle.checksum.proofs.stamp.Tie as tie
 
@@ -33,30 +33,25 @@ returns c =
 field-unfit-requires : tie.Need-field-unfit-requires
 field-unfit-requires c κs = search needs
 
-returns-2 : tie.Need-returns-2
-returns-2 c =
-    let r = c .before .before in
+-- past the test of the range
+past : (c : tie.After-field-unfit)
+    → let x = c .before .before .before .before .before .before .before .before .args in
+    Past (x .generator) (x .a) (x .e) (x .field) (x .packet .now) (c .field-unfit .result)
+past c =
+    let r = c .before in
     let g = r .before .before .before in
     let k = g .before .before in
     let x = k .before .before .args in
-    stamp-field (x .generator) (x .a) (x .e) (x .field) (x .packet .now) (k .admit .ensures) (g .made2 .given .1)
+    stamp-past (x .generator) (x .a) (x .e) (x .field) (x .packet .now) (k .admit .ensures) (g .made2 .given .1)
     (r .before .range-unfit .ensures)
     (r .if1 .left)
-    (c .before .field-unfit .ensures)
-    (c .if2 .taken)
+    (c .field-unfit .ensures)
+
+returns-2 : tie.Need-returns-2
+returns-2 c = past (c .before) .turned-down (c .if2 .taken)
 
 fill-field-requires : tie.Need-fill-field-requires
-fill-field-requires c κs =
-    let w = c .before in
-    let r = w .before .before in
-    let g = r .before .before .before in
-    let k = g .before .before in
-    let x = k .before .before .args in
-    stamp-fits (x .generator) (x .a) (x .e) (x .field) (x .packet .now) (k .admit .ensures) (g .made2 .given .1)
-    (r .before .range-unfit .ensures)
-    (r .if1 .left)
-    (w .before .field-unfit .ensures)
-    (w .if2 .left)
+fill-field-requires c κs = past (c .before .before) .fits (c .before .if2 .left)
 
 returns-3 : tie.Need-returns-3
 returns-3 c =
@@ -71,17 +66,7 @@ returns-4 : tie.Need-returns-4
 returns-4 c =
     let d = c .before .before in
     let w = d .before .before in
-    let r = w .before .before in
-    let g = r .before .before .before in
-    let k = g .before .before in
-    let x = k .before .before .args in
-    stamp-done (x .generator) (x .a) (x .e) (x .field) (x .packet .now) (k .admit .ensures) (g .made2 .given .1)
-    (r .before .range-unfit .ensures)
-    (r .if1 .left)
-    (w .before .field-unfit .ensures)
-    (w .if2 .left)
-    _
-    (d .fill-field .ensures)
+    past (w .before) .filled (w .if2 .left) _ (d .fill-field .ensures)
 
 pub stamp-spec : {M : Type 1} → statement M
 stamp-spec =
