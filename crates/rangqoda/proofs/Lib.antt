@@ -1,3 +1,4 @@
 pub mod CodeLaws
 pub mod MarkByteLaws
 pub mod PageLaws
+pub mod VerdictLaws

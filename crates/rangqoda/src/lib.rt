@@ -7,6 +7,7 @@ use packet::SealAnswer;
 use pages::PageAnswer;
 use patterns::Mark;
 use patterns::Pattern;
+use repair::Verdict;
 use tables::TablesAnswer;
 ghost use mathlib.Core.Path.{_≡_};
 ghost use mathlib.Core.List.{[], _∷_};
@@ -27,6 +28,9 @@ ghost use Rattle.rangqoda.specs.Marks.{
   padded,
   markBytes,
 };
+ghost use Rattle.packet.specs.Packet.{bytes};
+ghost use Rattle.repair.specs.Verdicts.{said};
+ghost use Rattle.rangqoda.specs.Verdicts.{laid, verdictBytes, publishCode};
 ghost use Rattle.rangqoda.specs.Pages.{asked, markAfter, usedAfter, writtenAfter};
 
 // A mark's bytes.
@@ -254,4 +258,67 @@ pub extern "C" fn rangqoda_page(
             0
         }
     }
+}
+
+// A verdict's bytes, and the first of them.
+const VERDICT_BYTES: usize = 18;
+
+const INTACT: u8 = 0;
+
+const REPAIRED: u8 = 1;
+
+const SEVERAL: u8 = 2;
+
+const NONE: u8 = 3;
+
+// A number into a slice, high byte first.
+fn put_number(value: u64, out: &mut [u8])
+    ensures { λ _. ⌜ now (out .exit) ≡ bytes (length (now (out .entry))) value ⌝ }
+{
+    let mut left = value;
+    let mut i = out.len();
+    while 0 < i {
+        i -= 1;
+        out[i] = (left % 256) as u8;
+        left = left / 256;
+    }
+}
+
+// A verdict's kind, the number of patterns that pass, and the record of one.
+fn put_parts(kind: u8, count: u64, p: Pattern, bytes: &mut [u8])
+    requires { ⌜ length (now bytes) ≡ 18 ⌝ }
+    ensures { λ _. ⌜ now (bytes .exit) ≡ laid kind count (positions p) ⌝ }
+{
+    bytes[0] = kind;
+    put_number(count, &mut bytes[1..9]);
+    put_pattern(p, &mut bytes[9..18]);
+}
+
+fn put_verdict(v: Verdict, bytes: &mut [u8])
+    requires { ⌜ length (now bytes) ≡ 18 ⌝ }
+    ensures { λ _. ⌜ now (bytes .exit) ≡ verdictBytes (said v) ⌝ }
+{
+    match v {
+        Verdict::Intact => put_parts(INTACT, 0, Pattern::Empty, bytes),
+        Verdict::Repaired(p) => put_parts(REPAIRED, 1, p, bytes),
+        Verdict::Several(k, p) => put_parts(SEVERAL, k, p, bytes),
+        Verdict::None => put_parts(NONE, 0, Pattern::Empty, bytes),
+    }
+}
+
+#[no_mangle]
+pub extern "C" fn rangqoda_publish(verdict: &[u8]) -> u32
+    ensures { λ r. ⌜ r ≡ publishCode (now (verdict .entry)) ⌝ }
+{
+    if verdict.len() != VERDICT_BYTES {
+        return 2;
+    }
+    let kind = verdict[0];
+    if kind == INTACT {
+        return 0;
+    }
+    if kind == REPAIRED {
+        return 1;
+    }
+    2
 }
