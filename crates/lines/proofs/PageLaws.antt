@@ -1,11 +1,10 @@
 -- How a page's text ends: too short an output, or the whole text stored.
-use mathlib.Core.Path.{_≡_, refl, sym, ap, _∙_}
-use mathlib.Core.List.{List, [], _∷_, _++_}
-use Prim.Native.Nat.{ℕ, _+_, _*_, _/_, _<_, _≤_}
+use mathlib.Core.Path.{_≡_, ap, _∙_}
+use mathlib.Core.List.{List, []}
+use Prim.Native.Nat.{ℕ, _*_, _/_, _<_, _≤_}
 use native.Mathlib.Omega.{arith}
-use lib.ListN.{length, drop}
+use lib.ListN.{length}
 use borrow.Author.Tests.{le-leb, lt-leb}
-use Rattle.lines.specs.declared.PageText.{PageText}
 use Rattle.lines.specs.declared.PageText.the-variants.{Written, Short}
 use Rattle.lines.specs.Text.{textOf, patternsIn, pageAnswer, pageText, Shown}
 use Rattle.lines.proofs.StoreLaws.{sets-start}

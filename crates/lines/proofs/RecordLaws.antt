@@ -1,6 +1,5 @@
 -- The patterns in a page, record by record; where the page is records xs, they are xs.
-use mathlib.Core.Path.{_≡_, refl, sym, ap, ap₂, _∙_}
-use mathlib.Core.Bool.{true, false}
+use mathlib.Core.Path.{_≡_, refl, ap, ap₂, _∙_}
 use mathlib.Core.List.{List, [], _∷_, _++_}
 use Prim.Native.Nat.{ℕ, zero, suc, _+_, _-_, _*_, _/_, _%_, _<_, _≤_}
 use native.Mathlib.Omega.{arith}
@@ -11,7 +10,6 @@ use lib.Seq.{drop-cons, drop-drop, getD-drop, drop-at}
 use borrow.Author.Tests.{le-leb, lt-leb}
 use Rattle.base.specs.Outcome.{pick}
 use Rattle.base.specs.Lists.{All, none, each}
-use Rattle.base.proofs.Cases.{by-order}
 use Rattle.patterns.specs.Pages.{places, recordOf, records}
 use Rattle.lines.specs.Decimal.{decimal}
 use Rattle.lines.specs.Text.{spaced, lineOf, textOf, positionsIn, patternsFrom, patternsIn}

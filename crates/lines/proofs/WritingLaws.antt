@@ -1,9 +1,9 @@
 -- A text written part by part: what is stored so far, with what is still to come, is the whole text.
 use mathlib.Core.Path.{_≡_, refl, sym, ap, _∙_}
 use mathlib.Core.List.{List, [], _∷_, _++_}
-use Prim.Native.Nat.{ℕ, suc, _+_, _≤_}
+use Prim.Native.Nat.{ℕ, _+_, _≤_}
 use native.Mathlib.Omega.{arith}
-use lib.ListN.{length, set, length-append, length-set}
+use lib.ListN.{length, set, length-append}
 use lib.Seq.{sets, length-sets, length-take-le}
 use Rattle.lines.specs.Text.{Stored, Front}
 use Rattle.lines.proofs.StoreLaws.{sets-append}

@@ -39,7 +39,7 @@ unfolding lastOf
 last-snoc p [] q = refl
 last-snoc p (x ∷ xs) q = last-snoc x xs q
 
-told-ahead-of : (l m : ℕ) (xs : List (List ℕ)) (r : Found) (pos : List ℕ) → FoundFits l r pos → length pos ≡ m → Told l m xs (aheadOf xs r pos) r pos
+pub told-ahead-of : (l m : ℕ) (xs : List (List ℕ)) (r : Found) (pos : List ℕ) → FoundFits l r pos → length pos ≡ m → Told l m xs (aheadOf xs r pos) r pos
 told-ahead-of l m xs (At k) pos h e = (record { split = refl; ascends = h .1 }, omega (arith, h .0))
 told-ahead-of l m xs Nothing pos h e = refl
 

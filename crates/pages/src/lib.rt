@@ -146,7 +146,7 @@ fn go_on(
 }
 
 // The first listed pattern that follows a mark.
-fn begin(
+pub fn begin(
     g: Generator,
     pow: &[u16],
     first: &[u16],

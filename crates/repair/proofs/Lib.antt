@@ -1,0 +1,5 @@
+pub mod WeighLaws
+pub mod TallyLaws
+pub mod ConditionLaws
+pub mod VerdictLaws
+pub mod CallLaws

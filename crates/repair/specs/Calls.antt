@@ -52,7 +52,7 @@ repairConditions r =
     when 1 (unfit (r .generator))
     ∷ when 2 (unfitLength (degree (r .generator)) (bits (r .packet)))
     ∷ laterConditions (degree (r .generator)) (r .generator) (r .from) (r .to) (r .limit) (r .steps) (r .firsts) (length (r .packet))
-      (length (r .output))
+    (length (r .output))
 
 abbrev pub repairAnswer : RepairAnswer → Outcome Said
 repairAnswer (Told v) = accepted (said v)

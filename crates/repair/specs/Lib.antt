@@ -1,2 +1,4 @@
 pub mod Verdicts
 pub mod Calls
+pub mod Steps
+pub mod Judged

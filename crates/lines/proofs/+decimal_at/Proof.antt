@@ -1,8 +1,8 @@
+-- `decimal_at` writes the number without its last digit by itself, and that digit behind it. The number falls.
 use borrow.Author.Needs.{needs}
-use mathlib.Core.Path.{_≡_, sym, ap, _∙_}
+use mathlib.Core.Path.{ap, _∙_}
 use lib.ListN.{length, set}
 use lib.Seq.{length-sets}
-use Rattle.lines.specs.Decimal.{decimal}
 use Rattle.lines.proofs.StoreLaws.{length-small, store-small, length-step, store-step}
 use native.Mathlib.Omega.{arith}
 use mathlib.Core.List.{List}

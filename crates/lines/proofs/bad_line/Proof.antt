@@ -1,6 +1,5 @@
 -- `bad_line` stores its words byte by byte, and the line feed behind them.
-use mathlib.Core.List.{List, [], _∷_}
-use Prim.Native.Nat.{ℕ}
+use mathlib.Core.List.{[], _∷_}
 use borrow.Author.Needs.{needs}
 use native.Mathlib.Omega.{arith}
 use Rattle.lines.specs.Text.{badLine}

@@ -1,8 +1,7 @@
 -- `end_line` stores its word byte by byte, and the number and the line feed behind it.
-use mathlib.Core.List.{List, [], _∷_, _++_}
-use Prim.Native.Nat.{ℕ, _+_}
+use mathlib.Core.List.{[], _∷_, _++_}
+use Prim.Native.Nat.{_+_}
 use borrow.Author.Needs.{needs}
-use native.Mathlib.Omega.{arith}
 use Rattle.lines.specs.Decimal.{decimal}
 use Rattle.lines.specs.Text.{endLine}
 use Rattle.lines.proofs.WritingLaws.{stored-behind, stored-front}

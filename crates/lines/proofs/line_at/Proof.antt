@@ -1,9 +1,9 @@
 -- `line_at` writes the count, the positions and the line feed, each behind the other.
 use mathlib.Core.Path.{ap}
-use mathlib.Core.List.{List, [], _∷_, _++_}
+use mathlib.Core.List.{[], _∷_, _++_}
 use Prim.Native.Nat.{ℕ, _+_, _<_, _≤_}
 use native.Mathlib.Omega.{arith}
-use lib.ListN.{length, set, drop}
+use lib.ListN.{length, drop}
 use lib.Seq.{length-sets}
 use Rattle.lines.specs.Decimal.{decimal}
 use Rattle.lines.specs.Text.{spaced, positionsIn}

@@ -1,6 +1,6 @@
 -- `number_line_at` writes the number and the line feed behind it; 64 bits make at most 20 digits.
 use mathlib.Core.Path.{ap}
-use mathlib.Core.List.{List, [], _∷_, _++_}
+use mathlib.Core.List.{[], _∷_, _++_}
 use Prim.Native.Nat.{ℕ, _^_, _<_, _≤_}
 use lib.ListN.{length}
 use lib.Seq.{length-sets}

@@ -1,9 +1,9 @@
 -- `positions_at` writes the positions with their blanks. Invariant: what is stored, with the positions left, is the whole text.
-use mathlib.Core.Path.{_≡_, sym, ap, _∙_}
-use mathlib.Core.List.{List, [], _∷_, _++_}
-use Prim.Native.Nat.{ℕ, _+_, _-_, _*_, _^_, _<_, _≤_}
+use mathlib.Core.Path.{_≡_}
+use mathlib.Core.List.{[], _++_}
+use Prim.Native.Nat.{ℕ, _+_, _-_, _*_, _≤_}
 use borrow.Author.Needs.{needs}
-use lib.ListN.{length, getD, set, drop, length-set}
+use lib.ListN.{length, getD, drop, length-set}
 use Rattle.lines.specs.Decimal.{decimal}
 use Rattle.lines.specs.Text.{spaced, positionsIn}
 use Rattle.lines.proofs.DecimalLaws.{decimal-length}

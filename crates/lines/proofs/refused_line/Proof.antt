@@ -1,9 +1,8 @@
 -- `refused_line` stores its word byte by byte, and the number and the line feed behind it.
 use mathlib.Core.Path.{sym}
-use mathlib.Core.List.{List, [], _∷_, _++_}
-use Prim.Native.Nat.{ℕ, _+_}
+use mathlib.Core.List.{[], _∷_, _++_}
+use Prim.Native.Nat.{_+_}
 use borrow.Author.Needs.{needs}
-use native.Mathlib.Omega.{arith}
 use Rattle.lines.specs.Decimal.{decimal}
 use Rattle.lines.specs.Text.{refusedLine}
 use Rattle.lines.proofs.WritingLaws.{stored-behind, stored-front}

@@ -1,0 +1,148 @@
+-- `flipped_total` adds what the clear bits count and takes away what the set bits count. Invariant: what was added, with
+-- what the positions left count, is all; and the same for what is taken away.
+use mathlib.Core.Path.{_≡_, ap, ap₂, _∙_}
+use mathlib.Core.List.{List}
+use Prim.Native.Nat.{ℕ, _+_, _-_, _*_, _≤_, _<_}
+use native.Mathlib.Omega.{arith}
+use borrow.Author.Needs.{needs}
+use lib.ListN.{length, drop, getD, drop-of-length-le}
+use Rattle.packet.specs.Packet.{bitAt, flips}
+use Rattle.checksum.specs.Checksum.{weight, setWeight, clearWeight, total, range}
+use Rattle.checksum.proofs.WeightLaws.{total-flips, setWeight-nil, clearWeight-nil}
+use Rattle.repair.proofs.WeighLaws.{ascending-chain, ascending-all, ascending-at, clear-turn, set-turn, digit-multiple}
+use Rattle.repair.proofs.flipped_total.Statement.{statement}
+use Rattle.repair.proofs.flipped_total.Tie as tie
+
+record Weighing (from to : ℕ) (packet pos : List ℕ) (plus minus i : ℕ) : Type 0 where
+  within : i ≤ length pos
+  adding : plus + clearWeight from to packet (drop i pos) ≡ clearWeight from to packet pos
+  taking : minus + setWeight from to packet (drop i pos) ≡ setWeight from to packet pos
+  few : plus ≤ 32768 * i
+  less : minus ≤ 32768 * i
+
+abbrev Inv-loop : tie.InvT-loop
+Inv-loop packet from to before pos plus₀ minus₀ i₀ plus minus i = Weighing from to packet pos plus minus i
+
+abbrev μ-loop : tie.MeasureT-loop
+μ-loop packet from to before pos plus₀ minus₀ i₀ plus minus i = length pos - i
+
+-- a bit counts at most 32768
+clear-small : (c : tie.After-bit-of Inv-loop μ-loop) → (1 - c .bit-of .result) * c .before .weight-of .result ≤ 32768
+clear-small c = digit-multiple (1 - c .bit-of .result) (c .before .weight-of .result) 32768 (omega arith) (c .before .weight-of .ensures .1)
+
+set-small : (c : tie.After-bit-of Inv-loop μ-loop) → c .bit-of .result * c .before .weight-of .result ≤ 32768
+set-small c = digit-multiple (c .bit-of .result) (c .before .weight-of .result) 32768 (omega (arith, c .bit-of .ensures .1)) (c .before .weight-of .ensures .1)
+
+-- no position left: all is weighed
+weighed : (c : tie.After-loop Inv-loop μ-loop) → let a = c .before .before .before .before .args in
+    total (range (a .from) (a .to) (flips (a .packet .now) (a .pos .now))) + c .before .loop .minus ≡ a .before + c .before .loop .plus
+weighed c =
+    let s = c .before .before .before .before in
+    let a = s .args in
+    let l = c .before .loop in
+    let none = drop-of-length-le (a .pos .now) {i = l .i} (omega arith) in
+    let p = ap (clearWeight (a .from) (a .to) (a .packet .now)) none ∙ clearWeight-nil (a .from) (a .to) (a .packet .now) in
+    let m = ap (setWeight (a .from) (a .to) (a .packet .now)) none ∙ setWeight-nil (a .from) (a .to) (a .packet .now) in
+    omega (
+      arith,
+      p,
+      m,
+      l .inv .adding,
+      l .inv .taking,
+      s .pre .known,
+      total-flips (a .from) (a .to) (a .packet .now) (a .pos .now) (ascending-chain (s .pre .ascends)) (ascending-all (s .pre .ascends)) (s .pre .inside),
+    )
+
+loop-holds : tie.Need-loop-holds Inv-loop μ-loop
+loop-holds c =
+    record { within = omega arith; adding = omega arith; taking = omega arith; few = omega arith; less = omega arith }
+
+mul-p : tie.Need-mul-p Inv-loop μ-loop
+mul-p c = omega arith
+
+shared-slice-read-p : tie.Need-shared-slice-read-p Inv-loop μ-loop
+shared-slice-read-p c = omega arith
+
+cast-p : tie.Need-cast-p Inv-loop μ-loop
+cast-p c = omega (arith, c .shared-slice-known3 .given ((c .before .before) .loop .i))
+
+weight-of-requires : tie.Need-weight-of-requires Inv-loop μ-loop
+weight-of-requires c κs = ascending-at ((c .before .before .before .before .before) .pre .ascends) ((c .before .before) .loop .i) (omega arith)
+
+bit-of-requires : tie.Need-bit-of-requires Inv-loop μ-loop
+bit-of-requires c κs = ascending-at ((c .before .before .before .before .before .before) .pre .ascends) ((c .before .before .before) .loop .i) (omega arith)
+
+sub-plus : tie.Need-sub-plus Inv-loop μ-loop
+sub-plus c = omega (arith, c .bit-of .ensures .1)
+
+mul-plus : tie.Need-mul-plus Inv-loop μ-loop
+mul-plus c = omega (arith, clear-small c)
+
+add-plus : tie.Need-add-plus Inv-loop μ-loop
+add-plus c = omega (arith, clear-small c, (c .before .before .before .before) .loop .inv .few, (c .before .before .before .before .before .before .before) .pre .few)
+
+mul-minus : tie.Need-mul-minus Inv-loop μ-loop
+mul-minus c = omega (arith, set-small c)
+
+add-minus : tie.Need-add-minus Inv-loop μ-loop
+add-minus c = omega (arith, set-small c, (c .before .before .before .before) .loop .inv .less, (c .before .before .before .before .before .before .before) .pre .few)
+
+add-i : tie.Need-add-i Inv-loop μ-loop
+add-i c = omega arith
+
+loop-less : tie.Need-loop-less Inv-loop μ-loop
+loop-less c = omega arith
+
+loop-again : tie.Need-loop-again Inv-loop μ-loop
+loop-again c =
+    let s = (c .before .before .before .before .before .before .before) in
+    let l = (c .before .before .before .before) .loop in
+    let p = s .args .packet .now in
+    let q = s .args .pos .now in
+    let a : ℕ = s .args .from in
+    let e : ℕ = s .args .to in
+    let b = c .bit-of .ensures .0 in
+    let k = (c .before) .weight-of .ensures .0 in
+    let h : l .i < length q = omega arith in
+    let clear : (1 - c .bit-of .result) * (c .before) .weight-of .result ≡ (1 - bitAt p (getD q (l .i) 0)) * weight a e p (getD q (l .i) 0) = ap₂ (λ (x y : ℕ). (1 - x) * y) b k in
+    let sets : c .bit-of .result * (c .before) .weight-of .result ≡ bitAt p (getD q (l .i) 0) * weight a e p (getD q (l .i) 0) = ap₂ (λ (x y : ℕ). x * y) b k in
+    record {
+      within = omega arith;
+      adding = omega (arith, clear, clear-turn a e p q (l .i) h, l .inv .adding);
+      taking = omega (arith, sets, set-turn a e p q (l .i) h, l .inv .taking);
+      few = omega (arith, clear-small c, l .inv .few);
+      less = omega (arith, set-small c, l .inv .less);
+    }
+
+add-result : tie.Need-add-result Inv-loop μ-loop
+add-result c = omega (arith, (c .before .before .before .before) .pre .small, (c .before) .loop .inv .few, (c .before .before .before .before) .pre .few)
+
+sub-result : tie.Need-sub-result Inv-loop μ-loop
+sub-result c = omega (arith, weighed c)
+
+returns : tie.Need-returns Inv-loop μ-loop
+returns c = omega (arith, weighed c)
+
+pub flipped-total-spec : {M : Type 1} → statement M
+flipped-total-spec =
+    tie.close
+    (tie.spec
+    Inv-loop
+    μ-loop
+    loop-holds
+    mul-p
+    shared-slice-read-p
+    cast-p
+    weight-of-requires
+    bit-of-requires
+    sub-plus
+    mul-plus
+    add-plus
+    mul-minus
+    add-minus
+    add-i
+    loop-less
+    loop-again
+    add-result
+    sub-result
+    returns)
