@@ -15,7 +15,7 @@ use Rattle.patterns.specs.Listing.{ascending}
 use Rattle.patterns.specs.Marks.{unfitPattern, unfitMark}
 use Rattle.patterns.specs.Pages.{places, recordOf}
 use Rattle.patterns.proofs.PageLaws.{record-length}
-use Rattle.rangqoda.specs.Marks.{placesIn, malformed, placeOfNine, placeOfBytes, padded, markBytes}
+use Rattle.rangqoda.specs.Marks.{placesIn, recordIn, malformed, placeOfNine, placeOfBytes, padded, markBytes}
 
 -- ---- bytes that are no mark ----
 
@@ -65,6 +65,11 @@ unfolding placesIn places
 placesIn-places [] t = refl
 placesIn-places (p ∷ ps) t = ap₂ (λ (x : ℕ) (xs : List ℕ). x ∷ xs) (omega arith) (placesIn-places ps t)
 
+-- a record is read back, whatever stands behind it
+pub record-back : (ps t : List ℕ) → recordIn (recordOf ps ++ t) ≡ ps
+unfolding recordOf
+record-back ps t = placesIn-places ps t
+
 pub padded-length : (s : List ℕ) → length s ≤ 9 → length (padded s) ≡ 9
 padded-length s h = simp (length-append, length-replicate) (omega arith)
 
@@ -86,7 +91,7 @@ unfolding recordOf
 after-nine ps t h =
     let a : length ps ≡ 254 → ⊥ = λ e. omega arith in
     let b : length ps ≡ 255 → ⊥ = λ e. omega arith in
-    rw (ne-eqb (length ps) 254 a, ne-eqb (length ps) 255 b, le-leb (length ps) 4 h) (ap after (placesIn-places ps t))
+    rw (ne-eqb (length ps) 254 a, ne-eqb (length ps) 255 b, le-leb (length ps) 4 h) (ap after (record-back ps t))
 
 pub read-back : {p : Place} → Short p → placeOfBytes (markBytes p) ≡ p
 unfolding placeOfBytes markBytes

@@ -13,6 +13,10 @@ unfoldable pub placesIn : ℕ → List ℕ → List ℕ
 placesIn zero s = []
 placesIn (suc k) s = (getD s 0 0 * 256 + getD s 1 0) ∷ placesIn k (drop 2 s)
 
+-- the positions of the record at the front of some bytes
+abbrev pub recordIn : List ℕ → List ℕ
+recordIn s = placesIn (getD s 0 0) (drop 1 s)
+
 -- what bytes that are no mark stand for: no set holds a position twice, so condition 7 turns it down, in its place among the conditions
 abbrev pub malformed : Place
 malformed = after (0 ∷ 0 ∷ [])
@@ -22,7 +26,7 @@ abbrev pub placeOfNine : List ℕ → Place
 placeOfNine s =
     pick (eqb (getD s 0 0) 254) start
     (pick (eqb (getD s 0 0) 255) ended
-    (pick (leb (getD s 0 0) 4) (after (placesIn (getD s 0 0) (drop 1 s))) malformed))
+    (pick (leb (getD s 0 0) 4) (after (recordIn s)) malformed))
 
 -- the mark that bytes give
 unfoldable pub placeOfBytes : List ℕ → Place

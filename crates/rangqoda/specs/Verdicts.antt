@@ -7,7 +7,7 @@ use Rattle.base.specs.Outcome.{pick}
 use Rattle.packet.specs.Packet.{bytes}
 use Rattle.patterns.specs.Pages.{recordOf}
 use Rattle.repair.specs.Verdicts.{Said, intact, repaired, several, nothing}
-use Rattle.rangqoda.specs.Marks.{placesIn, padded}
+use Rattle.rangqoda.specs.Marks.{recordIn, padded}
 
 -- a kind, a number in eight bytes, high byte first, and a record in nine
 abbrev pub laid : ℕ → ℕ → List ℕ → List ℕ
@@ -22,7 +22,7 @@ verdictBytes nothing = laid 3 0 []
 
 -- the pattern whose record stands in a verdict's bytes
 unfoldable pub patternIn : List ℕ → List ℕ
-patternIn s = placesIn (getD s 9 0) (drop 10 s)
+patternIn s = recordIn (drop 9 s)
 
 -- what to publish from, by a verdict's bytes: 0 for the received packet, 1 for the copy, 2 for nothing
 unfoldable pub publishCode : List ℕ → ℕ

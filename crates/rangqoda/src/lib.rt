@@ -7,6 +7,7 @@ use packet::SealAnswer;
 use pages::PageAnswer;
 use patterns::Mark;
 use patterns::Pattern;
+use repair::RepairAnswer;
 use repair::Verdict;
 use tables::TablesAnswer;
 ghost use mathlib.Core.Path.{_≡_};
@@ -30,7 +31,11 @@ ghost use Rattle.rangqoda.specs.Marks.{
 };
 ghost use Rattle.packet.specs.Packet.{bytes};
 ghost use Rattle.repair.specs.Verdicts.{said};
-ghost use Rattle.rangqoda.specs.Verdicts.{laid, verdictBytes, publishCode};
+ghost use Rattle.rangqoda.specs.Verdicts.{laid, verdictBytes, patternIn, publishCode};
+ghost use Rattle.base.specs.Outcome.{pick};
+ghost use lib.Dec.{eqb};
+ghost use Rattle.repair.specs.Calls.{repairCall};
+ghost use Rattle.rangqoda.specs.Repairs.{handed, verdictAfter, outputAfter, NamesWell};
 ghost use Rattle.rangqoda.specs.Pages.{asked, markAfter, usedAfter, writtenAfter};
 
 // A mark's bytes.
@@ -303,6 +308,53 @@ fn put_verdict(v: Verdict, bytes: &mut [u8])
         Verdict::Repaired(p) => put_parts(REPAIRED, 1, p, bytes),
         Verdict::Several(k, p) => put_parts(SEVERAL, k, p, bytes),
         Verdict::None => put_parts(NONE, 0, Pattern::Empty, bytes),
+    }
+}
+
+// How much of an output may be written, by the place that there is for the verdict.
+fn room_for(verdict: usize, output: usize) -> usize
+    ensures { λ r. ⌜ r ≡ pick (eqb verdict 18) output 0 ⌝ }
+{
+    if verdict == VERDICT_BYTES {
+        return output;
+    }
+    0
+}
+
+#[no_mangle]
+pub extern "C" fn rangqoda_repair(
+    generator: u64,
+    start: usize,
+    end: usize,
+    limit: usize,
+    step: &[u16],
+    first: &[u16],
+    packet: &[u8],
+    output: &mut [u8],
+    verdict: &mut [u8],
+) -> u32
+    ensures answer { λ r. ⌜ r ≡ code (repairCall (handed generator start end limit (now (step .entry)) (now (first .entry)) (now (packet .entry)) (now (output .entry)) (now (verdict .entry))) (patternIn (now (verdict .exit)))) ⌝ }
+    ensures verdict { λ _. ⌜ now (verdict .exit) ≡ verdictAfter (now (verdict .entry)) (repairCall (handed generator start end limit (now (step .entry)) (now (first .entry)) (now (packet .entry)) (now (output .entry)) (now (verdict .entry))) (patternIn (now (verdict .exit)))) ⌝ }
+    ensures names { λ _. ⌜ NamesWell (handed generator start end limit (now (step .entry)) (now (first .entry)) (now (packet .entry)) (now (output .entry)) (now (verdict .entry))) (repairCall (handed generator start end limit (now (step .entry)) (now (first .entry)) (now (packet .entry)) (now (output .entry)) (now (verdict .entry))) (patternIn (now (verdict .exit)))) ⌝ }
+    ensures output { λ _. ⌜ now (output .exit) ≡ outputAfter (handed generator start end limit (now (step .entry)) (now (first .entry)) (now (packet .entry)) (now (output .entry)) (now (verdict .entry))) (now (output .entry)) (now (verdict .entry)) ⌝ }
+{
+    let room = room_for(verdict.len(), output.len());
+    let answer = repair::repair(
+        generator,
+        start,
+        end,
+        limit,
+        step,
+        first,
+        packet,
+        &mut output[..room],
+    );
+    match answer {
+        RepairAnswer::Refused(r) => code_of(r),
+        RepairAnswer::Told(v) => {
+            put_verdict(v, verdict);
+            0
+        }
     }
 }
 
