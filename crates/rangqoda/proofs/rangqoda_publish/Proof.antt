@@ -1,0 +1,29 @@
+-- `rangqoda_publish` goes by the length and the first byte, as the definition does.
+use borrow.Author.Needs.{needs}
+use Rattle.base.proofs.Cases.{tests}
+use Rattle.rangqoda.specs.Verdicts.{publishCode}
+use Rattle.rangqoda.proofs.rangqoda_publish.Statement.{statement}
+use Rattle.rangqoda.proofs.rangqoda_publish.Tie as tie
+
+returns : tie.Need-returns
+unfolding publishCode
+returns c = search (needs, tests)
+
+shared-slice-read-kind : tie.Need-shared-slice-read-kind
+shared-slice-read-kind c = search needs
+
+returns-2 : tie.Need-returns-2
+unfolding publishCode
+returns-2 c = search (needs, tests)
+
+returns-3 : tie.Need-returns-3
+unfolding publishCode
+returns-3 c = search (needs, tests)
+
+returns-4 : tie.Need-returns-4
+unfolding publishCode
+returns-4 c = search (needs, tests)
+
+pub rangqoda-publish-spec : {M : Type 1} → statement M
+rangqoda-publish-spec =
+    tie.close (tie.spec returns shared-slice-read-kind returns-2 returns-3 returns-4)

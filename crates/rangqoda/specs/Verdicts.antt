@@ -1,0 +1,33 @@
+-- Verdicts as bytes, eighteen of them: the kind, how many patterns pass, and the record of one with zeros behind it.
+use Prim.Native.Nat.{ℕ}
+use mathlib.Core.List.{List, [], _∷_, _++_}
+use lib.Dec.{eqb}
+use lib.ListN.{length, getD, drop}
+use Rattle.base.specs.Outcome.{pick}
+use Rattle.packet.specs.Packet.{bytes}
+use Rattle.patterns.specs.Pages.{recordOf}
+use Rattle.repair.specs.Verdicts.{Said, intact, repaired, several, nothing}
+use Rattle.rangqoda.specs.Marks.{recordIn, padded}
+
+-- a kind, a number in eight bytes, high byte first, and a record in nine
+abbrev pub laid : ℕ → ℕ → List ℕ → List ℕ
+laid kind count ps = kind ∷ (bytes 8 count ++ padded (recordOf ps))
+
+-- the bytes of a verdict; where it has no pattern, zeros stand in its place, which are the record of no positions
+unfoldable pub verdictBytes : Said → List ℕ
+verdictBytes intact = laid 0 0 []
+verdictBytes (repaired p) = laid 1 1 p
+verdictBytes (several k p) = laid 2 k p
+verdictBytes nothing = laid 3 0 []
+
+-- the pattern whose record stands in a verdict's bytes
+unfoldable pub patternIn : List ℕ → List ℕ
+patternIn s = recordIn (drop 9 s)
+
+-- what to publish from, by a verdict's bytes: 0 for the received packet, 1 for the copy, 2 for nothing
+unfoldable pub publishCode : List ℕ → ℕ
+publishCode s = pick (eqb (length s) 18) (pick (eqb (getD s 0 0) 0) 0 (pick (eqb (getD s 0 0) 1) 1 2)) 2
+
+-- the bytes that such a number stands for
+abbrev pub published : ℕ → List ℕ → List ℕ → List ℕ
+published choice received copy = pick (eqb choice 0) received (pick (eqb choice 1) copy [])

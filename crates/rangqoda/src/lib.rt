@@ -1,0 +1,376 @@
+// The library as C functions, which include/rangqoda.h documents. Each calls one call of the layers below and takes its
+// answer apart: a number is returned, and what else there is to tell goes into lent memory.
+use base::Refusal;
+use checksum::StampAnswer;
+use packet::RemainderAnswer;
+use packet::SealAnswer;
+use pages::PageAnswer;
+use patterns::Mark;
+use patterns::Pattern;
+use repair::RepairAnswer;
+use repair::Verdict;
+use tables::TablesAnswer;
+ghost use mathlib.Core.Path.{_≡_};
+ghost use mathlib.Core.List.{[], _∷_};
+ghost use Prim.Native.Nat.{_+_, _*_, _<_, _≤_};
+ghost use lib.ListN.{length, getD, drop, replicate};
+ghost use Rattle.base.specs.Refusals.{number};
+ghost use Rattle.packet.specs.Calls.{remainderCall, sealCall, sealPacket};
+ghost use Rattle.checksum.specs.Calls.{sumCall, stampCall, stampPacket};
+ghost use Rattle.tables.specs.Calls.{tablesCall, stepsAfter, firstsAfter};
+ghost use Rattle.patterns.specs.Patterns.{positions, placeOf};
+ghost use Rattle.patterns.specs.Pages.{recordOf};
+ghost use Rattle.pages.specs.Calls.{pageCall, pageLeft};
+ghost use Rattle.rangqoda.specs.Codes.{code, changed};
+ghost use Rattle.rangqoda.specs.Marks.{
+  placesIn,
+  placeOfBytes,
+  malformed,
+  padded,
+  markBytes,
+};
+ghost use Rattle.packet.specs.Packet.{bytes};
+ghost use Rattle.repair.specs.Verdicts.{said};
+ghost use Rattle.rangqoda.specs.Verdicts.{laid, verdictBytes, patternIn, publishCode};
+ghost use Rattle.base.specs.Outcome.{pick};
+ghost use lib.Dec.{eqb};
+ghost use Rattle.repair.specs.Calls.{repairCall};
+ghost use Rattle.rangqoda.specs.Repairs.{handed, verdictAfter, outputAfter, NamesWell};
+ghost use Rattle.rangqoda.specs.Pages.{asked, markAfter, usedAfter, writtenAfter};
+
+// A mark's bytes.
+const MARK_BYTES: usize = 9;
+
+const START: u8 = 0xFE;
+
+const ENDED: u8 = 0xFF;
+
+// The number of the condition that turns a call down.
+fn code_of(r: Refusal) -> u32
+    ensures { λ c. ⌜ c ≡ number r ⌝ }
+{
+    match r {
+        Refusal::Generator => 1,
+        Refusal::Length => 2,
+        Refusal::Limit => 3,
+        Refusal::Syndrome => 4,
+        Refusal::TableLength => 5,
+        Refusal::TableEntry => 6,
+        Refusal::Mark => 7,
+        Refusal::Output => 8,
+        Refusal::Range => 9,
+        Refusal::Field => 10,
+    }
+}
+
+#[no_mangle]
+pub extern "C" fn rangqoda_remainder(generator: u64, packet: &[u8], remainder: &mut u64) -> u32
+    ensures answer { λ r. ⌜ r ≡ code (remainderCall generator (now (packet .entry))) ⌝ }
+    ensures remainder { λ _. ⌜ now (remainder .exit) ≡ changed (now (remainder .entry)) (λ v. v) (remainderCall generator (now (packet .entry))) ⌝ }
+{
+    let answer = packet::remainder(generator, packet);
+    match answer {
+        RemainderAnswer::Refused(r) => code_of(r),
+        RemainderAnswer::Remainder(v) => {
+            *remainder = v;
+            0
+        }
+    }
+}
+
+#[no_mangle]
+pub extern "C" fn rangqoda_seal(generator: u64, packet: &mut [u8]) -> u32
+    ensures answer { λ r. ⌜ r ≡ code (sealCall generator (now (packet .entry))) ⌝ }
+    ensures packet { λ _. ⌜ now (packet .exit) ≡ sealPacket generator (now (packet .entry)) ⌝ }
+{
+    let answer = packet::seal(generator, packet);
+    match answer {
+        SealAnswer::Refused(r) => code_of(r),
+        SealAnswer::Sealed => 0,
+    }
+}
+
+#[no_mangle]
+pub extern "C" fn rangqoda_sum(bytes: &[u8]) -> u16
+    ensures { λ r. ⌜ r ≡ sumCall (now (bytes .entry)) ⌝ }
+{
+    checksum::sum(bytes)
+}
+
+#[no_mangle]
+pub extern "C" fn rangqoda_stamp(
+    generator: u64,
+    start: usize,
+    end: usize,
+    field: usize,
+    packet: &mut [u8],
+) -> u32
+    ensures answer { λ r. ⌜ r ≡ code (stampCall generator start end field (now (packet .entry))) ⌝ }
+    ensures packet { λ _. ⌜ now (packet .exit) ≡ stampPacket generator start end field (now (packet .entry)) ⌝ }
+{
+    let answer = checksum::stamp(generator, start, end, field, packet);
+    match answer {
+        StampAnswer::Refused(r) => code_of(r),
+        StampAnswer::Stamped => 0,
+    }
+}
+
+#[no_mangle]
+pub extern "C" fn rangqoda_tables(
+    generator: u64,
+    step: &mut [u16],
+    first: &mut [u16],
+    period: &mut u64,
+) -> u32
+    ensures answer { λ r. ⌜ r ≡ code (tablesCall generator (now (step .entry)) (now (first .entry))) ⌝ }
+    ensures step { λ _. ⌜ now (step .exit) ≡ stepsAfter generator (now (step .entry)) (now (first .entry)) ⌝ }
+    ensures first { λ _. ⌜ now (first .exit) ≡ firstsAfter generator (now (step .entry)) (now (first .entry)) ⌝ }
+    ensures period { λ _. ⌜ now (period .exit) ≡ changed (now (period .entry)) (λ v. v) (tablesCall generator (now (step .entry)) (now (first .entry))) ⌝ }
+{
+    let answer = tables::tables(generator, step, first);
+    match answer {
+        TablesAnswer::Refused(r) => code_of(r),
+        TablesAnswer::Built(v) => {
+            *period = v;
+            0
+        }
+    }
+}
+
+// A mark that no length and no limit makes fit: what bytes that are no mark are taken for.
+fn no_mark() -> Mark
+    ensures { λ r. ⌜ placeOf r ≡ malformed ⌝ }
+{
+    Mark::After(Pattern::Two(0, 0))
+}
+
+// The position in the two bytes at `at`.
+fn position_at(bytes: &[u8], at: usize) -> u16
+    requires { ⌜ at + 1 < length (now bytes) ⌝ }
+    ensures { λ r. ⌜ r ≡ getD (now (bytes .entry)) at 0 * 256 + getD (now (bytes .entry)) (at + 1) 0 ⌝ }
+{
+    bytes[at] as u16 * 256 + bytes[at + 1] as u16
+}
+
+// The pattern whose record stands in a mark's bytes.
+fn read_pattern(bytes: &[u8], count: usize) -> Pattern
+    requires { ⌜ (length (now bytes) ≡ 9) × (count ≤ 4) ⌝ }
+    ensures { λ r. ⌜ positions r ≡ placesIn count (drop 1 (now (bytes .entry))) ⌝ }
+{
+    let a = position_at(bytes, 1);
+    let b = position_at(bytes, 3);
+    let c = position_at(bytes, 5);
+    let d = position_at(bytes, 7);
+    let held = [a, b, c, d];
+    patterns::from_positions(&held[..count])
+}
+
+fn read_mark(bytes: &[u8]) -> Mark
+    ensures { λ r. ⌜ placeOf r ≡ placeOfBytes (now (bytes .entry)) ⌝ }
+{
+    if bytes.len() != MARK_BYTES {
+        return no_mark();
+    }
+    let kind = bytes[0];
+    if kind == START {
+        return Mark::Start;
+    }
+    if kind == ENDED {
+        return Mark::Ended;
+    }
+    if 4 < kind {
+        return no_mark();
+    }
+    Mark::After(read_pattern(bytes, kind as usize))
+}
+
+fn clear(bytes: &mut [u8])
+    ensures { λ _. ⌜ now (bytes .exit) ≡ replicate (length (now (bytes .entry))) 0 ⌝ }
+{
+    let mut i: usize = 0;
+    while i < bytes.len() {
+        bytes[i] = 0;
+        i += 1;
+    }
+}
+
+// The record of some positions, with zeros behind it, into nine bytes.
+fn put_padded(pos: &[u16], bytes: &mut [u8])
+    requires { ⌜ (length (now pos) ≤ 4) × (length (now bytes) ≡ 9) ⌝ }
+    ensures { λ _. ⌜ now (bytes .exit) ≡ padded (recordOf (now (pos .entry))) ⌝ }
+{
+    clear(bytes);
+    patterns::put_record(pos, bytes, 0);
+}
+
+fn put_pattern(p: Pattern, bytes: &mut [u8])
+    requires { ⌜ length (now bytes) ≡ 9 ⌝ }
+    ensures { λ _. ⌜ now (bytes .exit) ≡ padded (recordOf (positions p)) ⌝ }
+{
+    let held = patterns::spread(p);
+    let n = patterns::count_of(p);
+    put_padded(&held[..n], bytes);
+}
+
+// A mark of one byte.
+fn put_kind(kind: u8, bytes: &mut [u8])
+    requires { ⌜ length (now bytes) ≡ 9 ⌝ }
+    ensures { λ _. ⌜ now (bytes .exit) ≡ padded (kind ∷ []) ⌝ }
+{
+    clear(bytes);
+    bytes[0] = kind;
+}
+
+fn put_mark(m: Mark, bytes: &mut [u8])
+    requires { ⌜ length (now bytes) ≡ 9 ⌝ }
+    ensures { λ _. ⌜ now (bytes .exit) ≡ markBytes (placeOf m) ⌝ }
+{
+    match m {
+        Mark::Start => put_kind(START, bytes),
+        Mark::Ended => put_kind(ENDED, bytes),
+        Mark::After(p) => put_pattern(p, bytes),
+    }
+}
+
+#[no_mangle]
+pub extern "C" fn rangqoda_page(
+    generator: u64,
+    length: usize,
+    limit: usize,
+    syndrome: u64,
+    step: &[u16],
+    first: &[u16],
+    mark: &mut [u8],
+    output: &mut [u8],
+    used: &mut usize,
+    written: &mut u64,
+) -> u32
+    ensures answer { λ r. ⌜ r ≡ code (pageCall (asked generator length limit syndrome (now (step .entry)) (now (first .entry)) (now (output .entry))) (placeOfBytes (now (mark .entry)))) ⌝ }
+    ensures mark { λ _. ⌜ now (mark .exit) ≡ markAfter (now (mark .entry)) (pageCall (asked generator length limit syndrome (now (step .entry)) (now (first .entry)) (now (output .entry))) (placeOfBytes (now (mark .entry)))) ⌝ }
+    ensures output { λ _. ⌜ now (output .exit) ≡ pageLeft (asked generator length limit syndrome (now (step .entry)) (now (first .entry)) (now (output .entry))) (placeOfBytes (now (mark .entry))) ⌝ }
+    ensures used { λ _. ⌜ now (used .exit) ≡ usedAfter (now (used .entry)) (pageCall (asked generator length limit syndrome (now (step .entry)) (now (first .entry)) (now (output .entry))) (placeOfBytes (now (mark .entry)))) ⌝ }
+    ensures written { λ _. ⌜ now (written .exit) ≡ writtenAfter (now (written .entry)) (pageCall (asked generator length limit syndrome (now (step .entry)) (now (first .entry)) (now (output .entry))) (placeOfBytes (now (mark .entry)))) ⌝ }
+{
+    let at = read_mark(mark);
+    let answer = pages::page(generator, length, limit, syndrome, step, first, at, output);
+    match answer {
+        PageAnswer::Refused(r) => code_of(r),
+        PageAnswer::Paged(p) => {
+            let next = p.next;
+            *used = p.used;
+            *written = p.written;
+            put_mark(next, mark);
+            0
+        }
+    }
+}
+
+// A verdict's bytes, and the first of them.
+const VERDICT_BYTES: usize = 18;
+
+const INTACT: u8 = 0;
+
+const REPAIRED: u8 = 1;
+
+const SEVERAL: u8 = 2;
+
+const NONE: u8 = 3;
+
+// A number into a slice, high byte first.
+fn put_number(value: u64, out: &mut [u8])
+    ensures { λ _. ⌜ now (out .exit) ≡ bytes (length (now (out .entry))) value ⌝ }
+{
+    let mut left = value;
+    let mut i = out.len();
+    while 0 < i {
+        i -= 1;
+        out[i] = (left % 256) as u8;
+        left = left / 256;
+    }
+}
+
+// A verdict's kind, the number of patterns that pass, and the record of one.
+fn put_parts(kind: u8, count: u64, p: Pattern, bytes: &mut [u8])
+    requires { ⌜ length (now bytes) ≡ 18 ⌝ }
+    ensures { λ _. ⌜ now (bytes .exit) ≡ laid kind count (positions p) ⌝ }
+{
+    bytes[0] = kind;
+    put_number(count, &mut bytes[1..9]);
+    put_pattern(p, &mut bytes[9..18]);
+}
+
+fn put_verdict(v: Verdict, bytes: &mut [u8])
+    requires { ⌜ length (now bytes) ≡ 18 ⌝ }
+    ensures { λ _. ⌜ now (bytes .exit) ≡ verdictBytes (said v) ⌝ }
+{
+    match v {
+        Verdict::Intact => put_parts(INTACT, 0, Pattern::Empty, bytes),
+        Verdict::Repaired(p) => put_parts(REPAIRED, 1, p, bytes),
+        Verdict::Several(k, p) => put_parts(SEVERAL, k, p, bytes),
+        Verdict::None => put_parts(NONE, 0, Pattern::Empty, bytes),
+    }
+}
+
+// How much of an output may be written, by the place that there is for the verdict.
+fn room_for(verdict: usize, output: usize) -> usize
+    ensures { λ r. ⌜ r ≡ pick (eqb verdict 18) output 0 ⌝ }
+{
+    if verdict == VERDICT_BYTES {
+        return output;
+    }
+    0
+}
+
+#[no_mangle]
+pub extern "C" fn rangqoda_repair(
+    generator: u64,
+    start: usize,
+    end: usize,
+    limit: usize,
+    step: &[u16],
+    first: &[u16],
+    packet: &[u8],
+    output: &mut [u8],
+    verdict: &mut [u8],
+) -> u32
+    ensures answer { λ r. ⌜ r ≡ code (repairCall (handed generator start end limit (now (step .entry)) (now (first .entry)) (now (packet .entry)) (now (output .entry)) (now (verdict .entry))) (patternIn (now (verdict .exit)))) ⌝ }
+    ensures verdict { λ _. ⌜ now (verdict .exit) ≡ verdictAfter (now (verdict .entry)) (repairCall (handed generator start end limit (now (step .entry)) (now (first .entry)) (now (packet .entry)) (now (output .entry)) (now (verdict .entry))) (patternIn (now (verdict .exit)))) ⌝ }
+    ensures names { λ _. ⌜ NamesWell (handed generator start end limit (now (step .entry)) (now (first .entry)) (now (packet .entry)) (now (output .entry)) (now (verdict .entry))) (repairCall (handed generator start end limit (now (step .entry)) (now (first .entry)) (now (packet .entry)) (now (output .entry)) (now (verdict .entry))) (patternIn (now (verdict .exit)))) ⌝ }
+    ensures output { λ _. ⌜ now (output .exit) ≡ outputAfter (handed generator start end limit (now (step .entry)) (now (first .entry)) (now (packet .entry)) (now (output .entry)) (now (verdict .entry))) (now (output .entry)) (now (verdict .entry)) ⌝ }
+{
+    let room = room_for(verdict.len(), output.len());
+    let answer = repair::repair(
+        generator,
+        start,
+        end,
+        limit,
+        step,
+        first,
+        packet,
+        &mut output[..room],
+    );
+    match answer {
+        RepairAnswer::Refused(r) => code_of(r),
+        RepairAnswer::Told(v) => {
+            put_verdict(v, verdict);
+            0
+        }
+    }
+}
+
+#[no_mangle]
+pub extern "C" fn rangqoda_publish(verdict: &[u8]) -> u32
+    ensures { λ r. ⌜ r ≡ publishCode (now (verdict .entry)) ⌝ }
+{
+    if verdict.len() != VERDICT_BYTES {
+        return 2;
+    }
+    let kind = verdict[0];
+    if kind == INTACT {
+        return 0;
+    }
+    if kind == REPAIRED {
+        return 1;
+    }
+    2
+}
