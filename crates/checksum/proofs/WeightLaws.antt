@@ -62,10 +62,6 @@ xor-other b j k h =
 
 -- one bit of a packet
 
-pub bitAt-lt : (s : List ℕ) (p : ℕ) → bitAt s p < 2
-unfolding bitAt
-bitAt-lt s p = omega arith
-
 bitAt-same-byte : (s : List ℕ) (p q : ℕ) → p < bits s → p / 8 ≡ q / 8 → p % 8 ≢ q % 8 → bitAt (flip s p) q ≡ bitAt s q
 unfolding bitAt flip
 bitAt-same-byte s p q hp e h =
