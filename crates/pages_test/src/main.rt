@@ -190,7 +190,7 @@ fn call(set: Setting, steps: &[u16], firsts: &[u16], run: Run, out: &mut [u8]) -
         out,
     );
     match answer {
-        PageAnswer::Refused(r) => turned_down(run, testkit::refusal_number(r), out),
+        PageAnswer::Refused(r) => turned_down(run, base::number_of(r), out),
         PageAnswer::Paged(page) => written(run, page, out),
     }
 }

@@ -23,7 +23,7 @@ use Rattle.packet.proofs.PacketLaws.{bytes-polynomial}
 use Rattle.packet.proofs.FlipLaws.{flips-length, flips-bytes, polynomial-flips, remainder-flips}
 use Rattle.packet.proofs.DifferenceLaws.{flips-difference}
 use Rattle.patterns.specs.Listing.{Ascending, none, next, syndrome}
-use Rattle.patterns.proofs.ListingLaws.{ascending-lower, listed-iff}
+use Rattle.patterns.proofs.ListingLaws.{ascending-from, listed-iff}
 use Rattle.repair.specs.Verdicts.{passesBoth, repaired, nothing, verdict, output}
 use Rattle.repair.specs.Demand.{Leads}
 use Rattle.repair.proofs.WeighLaws.{ascending-all}
@@ -38,7 +38,7 @@ differing-ascending s t (suc room) from l h =
     let rest = differing-ascending s t room (suc from) l (omega arith) in
     let below : from < l = omega arith in
     let here : from ≤ from = omega arith in
-    by-test (eqb (bitAt s from) (bitAt t from)) (λ e. rw e (ascending-lower rest)) (λ e. rw e (next here below rest))
+    by-test (eqb (bitAt s from) (bitAt t from)) (λ e. rw e (ascending-from from (omega arith) rest)) (λ e. rw e (next here below rest))
 
 pub difference-ascending : (s t : List ℕ) → Ascending (bits s) 0 (difference s t)
 unfolding difference

@@ -117,6 +117,10 @@ pub fit-steps : (n : ℕ) (a b : ℕ) → a ≡ 2 ^ n → unfitTables n a b ≡ 
 unfolding unfitTables
 fit-steps n a b h = simp (eq-eqb _ _ h)
 
+pub fit-tables : (n : ℕ) (a b : ℕ) → a ≡ 2 ^ n → b ≡ 2 ^ n → unfitTables n a b ≡ false
+unfolding unfitTables
+fit-tables n a b ha hb = simp (eq-eqb _ _ ha, eq-eqb _ _ hb)
+
 pub fit-lengths : (n : ℕ) (a b : ℕ) → unfitTables n a b ≡ false → (a ≡ 2 ^ n) × (b ≡ 2 ^ n)
 unfolding unfitTables
 fit-lengths n a b e =
