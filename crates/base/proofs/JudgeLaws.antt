@@ -5,7 +5,7 @@ use mathlib.Core.List.{List, [], _∷_}
 use Prim.Native.Nat.{ℕ}
 use native.Mathlib.Omega.{arith}
 use Rattle.base.specs.Outcome.{Outcome, refused, accepted, Condition, pick, judge}
-use Rattle.base.specs.Lists.{All, none, each}
+use Rattle.base.specs.Lists.{In, here, there, All, none, each}
 use Rattle.base.proofs.Cases.{by-test}
 
 module _ {A : Type 0} where
@@ -48,12 +48,20 @@ module _ {A : Type 0} where
       (λ h. absurd (refused-not-accepted (rw h at e)))
       (λ h. each h (judge-clear ts a b (rw h at e)))
 
--- the first of several facts, and the others
+-- what holds of every member, of one of them, of the first and of the others
+pub each-in : {A : Type 0} {P : A → Type 0} {a : A} {xs : List A} → All P xs → In a xs → P a
+each-in (each h hs) (here e) = rw e h
+each-in (each h hs) (there k) = each-in hs k
+
 pub first-of : {A : Type 0} {P : A → Type 0} {x : A} {xs : List A} → All P (x ∷ xs) → P x
 first-of (each h hs) = h
 
 pub rest-of : {A : Type 0} {P : A → Type 0} {x : A} {xs : List A} → All P (x ∷ xs) → All P xs
 rest-of (each h hs) = hs
+
+-- no condition of an accepted call applies
+pub accepted-none : {A : Type 0} {t : Condition} (ts : List Condition) (a b : A) → judge ts refused (accepted a) ≡ accepted b → In t ts → t .applies ≡ false
+accepted-none ts a b e h = each-in (judge-clear ts a b e) h
 
 -- ---- conditions tested one after the other: t is the answer of a test, b the condition that it decides
 

@@ -23,14 +23,14 @@ digit-lt (suc zero) (suc zero) hx hy = omega arith
 digit-lt (suc zero) (suc (suc y)) hx hy = absurd (omega arith)
 digit-lt (suc (suc x)) y hx hy = absurd (omega arith)
 
-bit : (a : ℕ) → a % 2 < 2
-bit a = omega arith
+pub mod-two-lt : (a : ℕ) → a % 2 < 2
+mod-two-lt a = omega arith
 
 pub xor-half : (a b : ℕ) → bitXor a b / 2 ≡ bitXor (a / 2) (b / 2)
-xor-half a b = omega (arith, xor-step a b, digit-lt (a % 2) (b % 2) (bit a) (bit b))
+xor-half a b = omega (arith, xor-step a b, digit-lt (a % 2) (b % 2) (mod-two-lt a) (mod-two-lt b))
 
 pub xor-low : (a b : ℕ) → bitXor a b % 2 ≡ differ (a % 2) (b % 2)
-xor-low a b = omega (arith, xor-step a b, digit-lt (a % 2) (b % 2) (bit a) (bit b))
+xor-low a b = omega (arith, xor-step a b, digit-lt (a % 2) (b % 2) (mod-two-lt a) (mod-two-lt b))
 
 pub xor-assoc : (a b c : ℕ) → bitXor (bitXor a b) c ≡ bitXor a (bitXor b c)
 xor-assoc a =
@@ -40,7 +40,7 @@ xor-assoc a =
     xor-step (bitXor n b) c
     ∙ ap₂ (λ (x y : ℕ). x * 2 + y)
     (ap (λ (x : ℕ). bitXor x (c / 2)) (xor-half n b) ∙ ih (b / 2) (c / 2) ∙ ap (bitXor (n / 2)) (sym (xor-half b c)))
-    (ap (λ (x : ℕ). differ x (c % 2)) (xor-low n b) ∙ digit-assoc (n % 2) (b % 2) (c % 2) (bit n) (bit b) (bit c) ∙ ap (differ (n % 2)) (sym (xor-low b c)))
+    (ap (λ (x : ℕ). differ x (c % 2)) (xor-low n b) ∙ digit-assoc (n % 2) (b % 2) (c % 2) (mod-two-lt n) (mod-two-lt b) (mod-two-lt c) ∙ ap (differ (n % 2)) (sym (xor-low b c)))
     ∙ sym (xor-step n (bitXor b c)))
     a
 

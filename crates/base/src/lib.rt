@@ -1,4 +1,6 @@
 // What every layer shares: the reasons for which a call is turned down.
+ghost use mathlib.Core.Path.{_≡_};
+ghost use Rattle.base.specs.Refusals.{number};
 
 // One case for each condition of the table of refusals; specs/Refusals.antt gives its number.
 pub enum Refusal {
@@ -12,4 +14,22 @@ pub enum Refusal {
     Output,
     Range,
     Field,
+}
+
+// The number of a refusal.
+pub fn number_of(refusal: Refusal) -> u64
+    ensures { λ r. ⌜ r ≡ number refusal ⌝ }
+{
+    match refusal {
+        Refusal::Generator => 1,
+        Refusal::Length => 2,
+        Refusal::Limit => 3,
+        Refusal::Syndrome => 4,
+        Refusal::TableLength => 5,
+        Refusal::TableEntry => 6,
+        Refusal::Mark => 7,
+        Refusal::Output => 8,
+        Refusal::Range => 9,
+        Refusal::Field => 10,
+    }
 }

@@ -1,15 +1,12 @@
 -- Conditions 9 and 10 by their parts, and what is known of a range and a field where neither applies.
 use mathlib.Core.Path.{_≡_, sym, _∙_}
-use mathlib.Core.Bool.{true, false, or-true}
+use mathlib.Core.Bool.{true, false, true≢false, or-true}
 use Prim.Native.Nat.{ℕ, _+_, _-_, _*_, _%_, _<_, _≤_}
 use native.Mathlib.Omega.{arith}
 use borrow.Author.Tests.{lt-ltb, le-ltb, le-leb, lt-leb, ltb-true, ltb-false, leb-true, leb-false, eqb-false}
 use lib.Dec.{eqb, leb, ltb}
 use Rattle.base.proofs.Cases.{by-test}
 use Rattle.checksum.specs.Checksum.{unfitRange, unfitField}
-
-differ : true ≡ false → ⊥
-differ h = let z : _≡_ {A = ℕ} 0 1 = cc in omega arith
 
 pub empty-unfit : (n l a e : ℕ) → e ≤ a → unfitRange n l a e ≡ true
 unfolding unfitRange
@@ -26,7 +23,7 @@ pub record FitRange (n l a e : ℕ) : Type 0 where
 
 pub fit-range : (n l a e : ℕ) → unfitRange n l a e ≡ false → FitRange n l a e
 fit-range n l a e h =
-    by-test (leb e a) (λ t. absurd (differ (sym (empty-unfit n l a e (leb-true _ _ t)) ∙ h)))
+    by-test (leb e a) (λ t. absurd (true≢false (sym (empty-unfit n l a e (leb-true _ _ t)) ∙ h)))
     (λ t.
     let some : a < e = leb-false _ _ t in
     record { some = some; whole = ltb-false _ _ (sym (range-unfit n l a e some) ∙ h) })
@@ -51,9 +48,9 @@ pub record FitField (a e f : ℕ) : Type 0 where
 
 pub fit-field : (a e f : ℕ) → unfitField a e f ≡ false → FitField a e f
 fit-field a e f h =
-    by-test (ltb f a) (λ t. absurd (differ (sym (before-unfit a e f (ltb-true _ _ t)) ∙ h)))
+    by-test (ltb f a) (λ t. absurd (true≢false (sym (before-unfit a e f (ltb-true _ _ t)) ∙ h)))
     (λ t.
-    by-test (ltb e (f + 2)) (λ u. absurd (differ (sym (past-unfit a e f (ltb-true _ _ u)) ∙ h)))
+    by-test (ltb e (f + 2)) (λ u. absurd (true≢false (sym (past-unfit a e f (ltb-true _ _ u)) ∙ h)))
     (λ u.
     let after : a ≤ f = ltb-false _ _ t in
     let within : f + 2 ≤ e = ltb-false _ _ u in

@@ -11,7 +11,8 @@ use lib.Seq.{getD-take, getD-drop, drop-set-lt, drop-set-add, take-set-le, take-
 use Rattle.base.specs.Outcome.{pick}
 use Rattle.base.proofs.Cases.{by-test, by-order}
 use Rattle.packet.specs.Packet.{Bytes}
-use Rattle.checksum.specs.Checksum.{range, passes, total, multiple, place, share}
+use Rattle.checksum.specs.Checksum.{range, passes}
+use Rattle.checksum.specs.Totals.{total, multiple, place, share}
 use Rattle.checksum.proofs.SumLaws.{total-one, total-two, sum-multiple}
 
 -- the elements of a part are bytes, and so is what is written

@@ -11,7 +11,8 @@ use lib.ListN.{length, getD, take, drop, set, length-set}
 use lib.Seq.{set-set, set-comm, getD-set-same, getD-set-other}
 use Rattle.base.proofs.Cases.{by-order}
 use Rattle.packet.specs.Packet.{Bytes, bits}
-use Rattle.checksum.specs.Checksum.{sumOf, range, passes, total, norm, multiple, share, unfitRange, unfitField, written, stamped}
+use Rattle.checksum.specs.Checksum.{sumOf, range, passes, unfitRange, unfitField, written, stamped}
+use Rattle.checksum.specs.Totals.{total, norm, multiple, share}
 use Rattle.checksum.proofs.SumLaws.{sum-norm, norm-zero, norm-positive, multiple-positive}
 use Rattle.checksum.proofs.RangeLaws.{set-bytes, range-bytes, passes-total, total-range-set, share-within, place-even, place-odd}
 use Rattle.checksum.proofs.ConditionLaws.{FitField, fit-range, fit-field}

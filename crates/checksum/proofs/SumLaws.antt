@@ -11,7 +11,8 @@ use lib.Dec.{eqb, ltb}
 use lib.ListN.{length, getD, drop, drop-of-length-le}
 use Rattle.base.proofs.Cases.{by-test}
 use Rattle.packet.specs.Packet.{Bytes}
-use Rattle.checksum.specs.Checksum.{words, folded, sumFrom, sumOf, plain, total, norm, multiple}
+use Rattle.checksum.specs.Checksum.{words, folded, sumFrom, sumOf}
+use Rattle.checksum.specs.Totals.{plain, total, norm, multiple}
 
 -- the equations of the definitions
 

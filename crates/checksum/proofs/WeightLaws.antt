@@ -17,7 +17,8 @@ use Rattle.base.proofs.Cases.{by-order, by-test}
 use Rattle.base.proofs.XorLaws.{xor-low}
 use Rattle.packet.specs.Packet.{Bytes, bits, bitAt, flip, flips}
 use Rattle.packet.proofs.FlipLaws.{flip-length, flips-bytes}
-use Rattle.checksum.specs.Checksum.{range, passes, total, multiple, share, weight, setWeight, clearWeight}
+use Rattle.checksum.specs.Checksum.{range, passes}
+use Rattle.checksum.specs.Totals.{total, multiple, share, weight, setWeight, clearWeight}
 use Rattle.checksum.proofs.RangeLaws.{total-range-set, passes-total}
 
 -- one bit of a number
@@ -60,10 +61,6 @@ xor-other b j k h =
     ∙ differ-zero (b / 2 ^ k % 2)
 
 -- one bit of a packet
-
-pub bitAt-lt : (s : List ℕ) (p : ℕ) → bitAt s p < 2
-unfolding bitAt
-bitAt-lt s p = omega arith
 
 bitAt-same-byte : (s : List ℕ) (p q : ℕ) → p < bits s → p / 8 ≡ q / 8 → p % 8 ≢ q % 8 → bitAt (flip s p) q ≡ bitAt s q
 unfolding bitAt flip

@@ -5,15 +5,8 @@ use poly::Construction;
 ghost use mathlib.Core.Path.{_≡_};
 ghost use Prim.Native.Nat.{_+_, _*_, _≤_, _<_};
 ghost use lib.ListN.{length, getD};
-ghost use Rattle.checksum.specs.Checksum.{
-  folded,
-  total,
-  multiple,
-  unfitRange,
-  unfitField,
-  written,
-  stamped,
-};
+ghost use Rattle.checksum.specs.Checksum.{folded, unfitRange, unfitField, written, stamped};
+ghost use Rattle.checksum.specs.Totals.{total, multiple};
 ghost use Rattle.checksum.specs.Calls.{sumCall, stampAnswer, stampCall, stampPacket};
 
 pub enum StampAnswer {

@@ -57,7 +57,7 @@ fn show_answer(answer: StampAnswer) {
             io::print_hex(STDOUT_FILENO, 0, 1);
         }
         StampAnswer::Refused(r) => {
-            io::print_hex(STDOUT_FILENO, testkit::refusal_number(r), 1);
+            io::print_hex(STDOUT_FILENO, base::number_of(r), 1);
         }
     }
 }

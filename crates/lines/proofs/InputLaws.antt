@@ -1,6 +1,6 @@
 -- `parseLine` gives four numbers exactly when the input is a line of them; and what reading does at each kind of byte.
 use mathlib.Core.Path.{_≡_, refl, sym, ap, _∙_}
-use mathlib.Core.Bool.{true, false}
+use mathlib.Core.Bool.{true, false, true≢false}
 use mathlib.Core.Logic.{_↔_}
 use mathlib.Core.List.{List, [], _∷_, _++_}
 use Prim.Native.Nat.{ℕ, zero, suc, _+_, _-_, _*_, _<_, _≤_}
@@ -30,9 +30,9 @@ digit-high c h = simp (le-leb 48 c (omega arith), le-ltb c 58 (omega arith))
 true-digit : (c : ℕ) → isDigit c ≡ true → Digit c
 true-digit c e =
     by-order c 48
-    (λ l. absurd (let z : false ≡ true = sym (digit-low c l) ∙ e in let k : _≡_ {A = ℕ} 0 1 = cc in omega arith))
+    (λ l. absurd (true≢false (sym e ∙ digit-low c l)))
     (λ low. by-order 57 c
-    (λ l. absurd (let z : false ≡ true = sym (digit-high c l) ∙ e in let k : _≡_ {A = ℕ} 0 1 = cc in omega arith))
+    (λ l. absurd (true≢false (sym e ∙ digit-high c l)))
     (λ high. (low, omega arith)))
 
 value-first : (c : ℕ) (cs : List ℕ) → valueOf (c ∷ cs) ≡ valueFrom (c - 48) cs

@@ -11,6 +11,7 @@ use borrow.Author.Tests.{le-leb, lt-leb}
 use Rattle.base.specs.Outcome.{pick}
 use Rattle.base.specs.Lists.{All, none, each}
 use Rattle.patterns.specs.Pages.{places, recordOf, records}
+use Rattle.patterns.proofs.PageLaws.{places-length}
 use Rattle.lines.specs.Decimal.{decimal}
 use Rattle.lines.specs.Text.{spaced, lineOf, textOf, positionsIn, patternsFrom, patternsIn}
 
@@ -88,11 +89,6 @@ module _ (page : List ℕ) (at : ℕ) where
         let m : 2 * k ≤ length (drop (at + 1) page) = simp length-drop (omega arith) in
         rw (here, patterns-cons k (drop (at + 1) page), le-leb (2 * k) (length (drop (at + 1) page)) m, drop-drop (2 * k) (at + 1) page)
 
-length-places : (ps : List ℕ) → length (places ps) ≡ 2 * length ps
-unfolding places
-length-places [] = refl
-length-places (p ∷ ps) = omega (arith, length-places ps)
-
 positions-places : {ps : List ℕ} → All (λ (p : ℕ). p < 65536) ps → (rest : List ℕ) → positionsIn (length ps) (places ps ++ rest) ≡ ps
 unfolding positionsIn places
 positions-places none rest = refl
@@ -105,11 +101,11 @@ pub patterns-records : {xs : List (List ℕ)} → All (All (λ (p : ℕ). p < 65
 unfolding records recordOf
 patterns-records none = patterns-none
 patterns-records (each {x = ps} {xs = xs} h hs) =
-    let m : 2 * length ps ≤ length (places ps ++ records xs) = simp (length-append, length-places) (omega arith) in
+    let m : 2 * length ps ≤ length (places ps ++ records xs) = simp (length-append, places-length) (omega arith) in
     patterns-cons (length ps) (places ps ++ records xs)
     ∙ rw (
       le-leb (2 * length ps) (length (places ps ++ records xs)) m,
       positions-places h (records xs),
-      drop-at (places ps) (records xs) (2 * length ps) (length-places ps),
+      drop-at (places ps) (records xs) (2 * length ps) (places-length ps),
     )
     (ap (λ (qs : List (List ℕ)). ps ∷ qs) (patterns-records hs))

@@ -168,24 +168,6 @@ pub fn page_text(page: &[u8], out: &mut [u8]) -> PageText
     PageText::Written(to)
 }
 
-// The number of a refusal.
-fn number_of(refusal: Refusal) -> u64
-    ensures { λ r. ⌜ r ≡ number refusal ⌝ }
-{
-    match refusal {
-        Refusal::Generator => 1,
-        Refusal::Length => 2,
-        Refusal::Limit => 3,
-        Refusal::Syndrome => 4,
-        Refusal::TableLength => 5,
-        Refusal::TableEntry => 6,
-        Refusal::Mark => 7,
-        Refusal::Output => 8,
-        Refusal::Range => 9,
-        Refusal::Field => 10,
-    }
-}
-
 // Writes a line feed at `to`, and answers the place after it.
 fn feed_at(out: &mut [u8], to: usize) -> usize
     requires { ⌜ to < length (now out) ⌝ }
@@ -223,7 +205,7 @@ pub fn refused_line(refusal: Refusal, out: &mut [u8; 32]) -> usize
     ensures text { λ r. ⌜ Stored (now (out .entry)) 0 (refusedLine (number refusal)) r (now (out .exit)) ⌝ }
     ensures front { λ r. ⌜ Front r (now (out .exit)) ⌝ }
 {
-    let k = number_of(refusal);
+    let k = base::number_of(refusal);
     out[0] = b'r';
     out[1] = b'e';
     out[2] = b'f';

@@ -1,7 +1,7 @@
 -- What an accepted page call does to the count and the mark: it writes what it counts, leaves the rest, and writes a
 -- record unless it ends the list.
 use mathlib.Core.Path.{_≡_, refl, sym, ap, _∙_}
-use mathlib.Core.Bool.{true, false}
+use mathlib.Core.Bool.{false, true≢false}
 use mathlib.Core.List.{List, []}
 use Prim.Native.Nat.{ℕ, _+_, _-_, _^_, _<_, _≤_}
 use native.Mathlib.Omega.{arith}
@@ -10,7 +10,7 @@ use borrow.Author.Tests.{lt-ltb}
 use Rattle.base.specs.Lists.{here, there}
 use Rattle.base.specs.Outcome.{Outcome, accepted}
 use Rattle.base.proofs.Cases.{by-order}
-use Rattle.base.proofs.JudgeLaws.{judge-accepted, judge-value}
+use Rattle.base.proofs.JudgeLaws.{judge-accepted, judge-value, accepted-none}
 use Rattle.poly.specs.Polynomial.{degree}
 use Rattle.packet.proofs.PacketLaws.{fit-length}
 use Rattle.patterns.specs.Patterns.{Place, ended, after}
@@ -20,7 +20,6 @@ use Rattle.patterns.proofs.SiftLaws.{sift-in}
 use Rattle.patterns.proofs.CountLaws.{listing-fits}
 use Rattle.patterns.proofs.ListingLaws.{listing-sorted, listed-limit}
 use Rattle.patterns.proofs.PageLaws.{fitting-length, fitting-unless, page-fits, page-length, page-leaves, next-ended}
-use Rattle.patterns.proofs.SequenceLaws.{accepted-none}
 use Rattle.pages.specs.Conditions.{Request, pageConditions, unfitOutput}
 use Rattle.patterns.specs.declared.Mark.{Mark}
 use Rattle.pages.specs.Calls.{requested, pageCall, pageLeft, pageResult, answered}
@@ -38,7 +37,7 @@ use Rattle.pages.proofs.CallLaws.{fit-limit}
 fit-output : (room : ℕ) → unfitOutput room ≡ false → 9 ≤ room
 unfolding unfitOutput
 fit-output room e =
-    by-order room 9 (λ h. absurd (let z : true ≡ false = sym (lt-ltb room 9 h) ∙ e in let k : _≡_ {A = ℕ} 0 1 = cc in omega arith)) (λ h. h)
+    by-order room 9 (λ h. absurd (true≢false (sym (lt-ltb room 9 h) ∙ e))) (λ h. h)
 
 module _ (r : Request) (m : Place) (p : Page) (e : pageCall r m ≡ accepted p) where
   rest : List (List ℕ)

@@ -8,7 +8,7 @@ use lib.Arith.{mod-mul}
 use lib.Bits.{bitXor, xor-block, xor-lt}
 use lib.ListN.{length, getD, take, drop, set, length-append}
 use lib.Seq.{take-suc, take-length, drop-cons, getD-take, getD-set-same, drop-set-lt, lt-length-set}
-use mathlib.Core.Bool.{true, false, or-true}
+use mathlib.Core.Bool.{true, false, true≢false, or-true}
 use borrow.Author.Tests.{lt-ltb, le-ltb, le-leb, lt-leb}
 use Rattle.base.proofs.Cases.{by-order}
 use Rattle.packet.specs.Packet.{Bytes, polynomial, polynomialAfter, bytes, unfitLength}
@@ -114,8 +114,5 @@ length-fit n l h k = simp (lt-leb _ _ h, le-ltb _ _ k)
 pub fit-length : (n l : ℕ) → unfitLength n l ≡ false → (n < l) × (l ≤ 4096)
 fit-length n l e =
     by-order n l
-    (λ h. by-order 4096 l (λ k. absurd (clash (sym (long-unfit n l k) ∙ e))) (λ k. (h, k)))
-    (λ h. absurd (clash (sym (short-unfit n l h) ∙ e)))
-  where
-    clash : true ≡ false → ⊥
-    clash h = let z : _≡_ {A = ℕ} 0 1 = cc in omega arith
+    (λ h. by-order 4096 l (λ k. absurd (true≢false (sym (long-unfit n l k) ∙ e))) (λ k. (h, k)))
+    (λ h. absurd (true≢false (sym (short-unfit n l h) ∙ e)))

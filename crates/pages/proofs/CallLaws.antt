@@ -1,6 +1,6 @@
 -- The conditions of a page call, judged in two parts: 1 and 2 by the packet's judge, the later ones for the generator made.
 use mathlib.Core.Path.{_≡_, refl, sym, ap, subst, _∙_}
-use mathlib.Core.Bool.{true, false, or-true}
+use mathlib.Core.Bool.{false, true≢false, or-true}
 use mathlib.Core.List.{List, [], _∷_}
 use Prim.Native.Nat.{ℕ, _^_, _<_, _≤_}
 use native.Mathlib.Omega.{arith}
@@ -27,9 +27,6 @@ use Rattle.pages.specs.Judged.{Fit, judgement, judgedPage}
 use Rattle.pages.specs.Filling.{Marked, Listable}
 use Rattle.pages.specs.declared.Judgement.{Judgement}
 use Rattle.pages.specs.declared.Judgement.the-variants.{Passed, Refused}
-
-clash : true ≡ false → ⊥
-clash h = let z : _≡_ {A = ℕ} 0 1 = cc in omega arith
 
 -- a generator that was admitted is fit
 pub admitted-fit : {g l : ℕ} {v : Generator} → Admitted g l v → Fit v
@@ -66,11 +63,11 @@ module _ (g l : ℕ) (later : Generator → List Condition) {c : Construction} (
 -- what each condition leaves when it does not apply
 pub fit-limit : (n : ℕ) → unfitLimit n ≡ false → n ≤ 4
 unfolding unfitLimit
-fit-limit n e = by-order 4 n (λ h. absurd (clash (sym (simp (lt-ltb 4 n h, or-true)) ∙ e))) (λ h. h)
+fit-limit n e = by-order 4 n (λ h. absurd (true≢false (sym (simp (lt-ltb 4 n h, or-true)) ∙ e))) (λ h. h)
 
 fit-syndrome : (n s : ℕ) → unfitSyndrome n s ≡ false → s < 2 ^ n
 unfolding unfitSyndrome
-fit-syndrome n s e = by-order s (2 ^ n) (λ h. h) (λ h. absurd (clash (sym (le-leb (2 ^ n) s h) ∙ e)))
+fit-syndrome n s e = by-order s (2 ^ n) (λ h. h) (λ h. absurd (true≢false (sym (le-leb (2 ^ n) s h) ∙ e)))
 
 fit-mark : (l limit : ℕ) (m : Place) → unfitMark l limit m ≡ false → Marked l limit m
 fit-mark l limit start e = tt

@@ -38,9 +38,9 @@ unfolding ascending
 true-ascending none = refl
 true-ascending (next h k a) = simp (le-leb _ _ h, lt-ltb _ _ k, true-ascending a)
 
-pub ascending-lower : {l from : ℕ} {ps : List ℕ} → Ascending l (suc from) ps → Ascending l from ps
-ascending-lower none = none
-ascending-lower {from = from} (next {p = p} h k a) = next {from = from} {p = p} (omega arith) k a
+pub ascending-from : {l from : ℕ} {ps : List ℕ} (to : ℕ) → to ≤ from → Ascending l from ps → Ascending l to ps
+ascending-from to h none = none
+ascending-from to h (next {p = p} a b c) = let e : to ≤ p = omega arith in next e b c
 
 -- ---- all sets of k positions ----
 
@@ -55,7 +55,7 @@ choose-in (suc room) (suc k) from l e ps h =
     let r = map-in (λ (ps : List ℕ). from ∷ ps) (choose room k (suc from)) i in
     let a = choose-in room k (suc from) l (omega arith) (r .0) (r .1) in
     rw (r .2) (next {from = from} {p = from} (omega arith) (omega arith) (a .0), ap suc (a .1)))
-    (λ i. let a = choose-in room (suc k) (suc from) l (omega arith) ps i in (ascending-lower (a .0), a .1))
+    (λ i. let a = choose-in room (suc k) (suc from) l (omega arith) ps i in (ascending-from from (omega arith) (a .0), a .1))
     (in-either (map (λ (ps : List ℕ). from ∷ ps) (choose room k (suc from))) h)
 
 pub in-choose : (room from l : ℕ) → from + room ≡ l → {ps : List ℕ} → Ascending l from ps → In ps (choose room (length ps) from)

@@ -5,7 +5,7 @@ use mathlib.Core.Bool.{true, false, true≢false, or-true}
 use mathlib.Core.List.{List, [], _∷_}
 use Prim.Native.Nat.{ℕ, suc, _<_}
 use native.Mathlib.Omega.{arith}
-use borrow.Author.Tests.{lt-ltb, eq-eqb, ltb-true, eqb-true}
+use borrow.Author.Tests.{lt-ltb, le-ltb, eq-eqb, ne-eqb, ltb-true, eqb-true}
 use lib.Dec.{eqb, ltb}
 use lib.ListN.{length}
 use Rattle.base.proofs.Cases.{by-test, by-order}
@@ -130,6 +130,22 @@ before-strict-total =
     }
 
 -- ---- how two patterns compare by their first positions ----
+
+pub lower-less : (a b : ℕ) (p q : List ℕ) → a < b → lower (a ∷ p) (b ∷ q) ≡ true
+lower-less a b p q h = true-lower {p = a ∷ p} {q = b ∷ q} (less h)
+
+pub lower-more : (a b : ℕ) (p q : List ℕ) → b < a → lower (a ∷ p) (b ∷ q) ≡ false
+unfolding lower
+lower-more a b p q h = simp (le-ltb a b (omega arith), ne-eqb a b (omega arith))
+
+pub lower-same : (a : ℕ) (p q : List ℕ) → lower (a ∷ p) (a ∷ q) ≡ lower p q
+unfolding lower
+lower-same a p q = simp (le-ltb a a (omega arith), eq-eqb a a refl)
+
+-- among patterns of one count the positions decide
+pub level-before : (p q : List ℕ) → length p ≡ length q → before p q ≡ lower p q
+unfolding before
+level-before p q h = simp (le-ltb (length p) (length q) (omega arith), eq-eqb (length p) (length q) h)
 
 pub fewer-before : (p q : List ℕ) → length p < length q → before p q ≡ true
 fewer-before p q h = true-before (fewer h)

@@ -1,7 +1,6 @@
 -- Demand 3's sequence of page calls, as one theorem over any list of requests. The invariant, for k records written
 -- and the mark reached: what follows the mark is the list without its first k patterns.
 use mathlib.Core.Path.{_≡_, refl, sym, ap, ap₂, _∙_}
-use mathlib.Core.Bool.{false}
 use mathlib.Core.Logic.{_⊎_, inl, inr}
 use mathlib.Core.List.{List, [], _∷_, _++_}
 use Prim.Native.Nat.{ℕ, zero, suc, _+_, _*_, _-_, _<_, _≤_}
@@ -9,10 +8,10 @@ use native.Mathlib.Omega.{arith}
 use native.Mathlib.Nat.{add-assoc, add-zero, zero-add}
 use lib.ListN.{length, take, drop, getD, length-drop}
 use lib.Seq.{drop-drop, take-add, take-all, getD-drop}
-use Rattle.base.specs.Lists.{In, here, there}
+use Rattle.base.specs.Lists.{In, here}
 use Rattle.base.specs.Outcome.{Outcome, refused, accepted, Condition, judge}
-use Rattle.base.proofs.Cases.{by-test, by-order}
-use Rattle.base.proofs.JudgeLaws.{refused-not-accepted, judge-accepted, judge-value}
+use Rattle.base.proofs.Cases.{by-order}
+use Rattle.base.proofs.JudgeLaws.{judge-accepted, judge-value}
 use Rattle.patterns.specs.Patterns.{Place, start, ended, after}
 use Rattle.patterns.specs.Order.{before}
 use Rattle.patterns.specs.StrictOrder.{Sorted}
@@ -24,13 +23,6 @@ use Rattle.patterns.proofs.SiftLaws.{sift-in}
 use Rattle.patterns.proofs.FollowLaws.{remaining-start}
 use Rattle.patterns.proofs.ListingLaws.{listing-sorted, listed-limit}
 use Rattle.patterns.proofs.PageLaws.{records-append, fitting-take, fitting-length, fitting-unless, page-length, page-used, page-leaves, next-ended, next-after, last-take}
-
--- no condition of an accepted call applies
-pub accepted-none : {A : Type 0} {t : Condition} (ts : List Condition) (a b : A) → judge ts refused (accepted a) ≡ accepted b → In t ts → t .applies ≡ false
-accepted-none [] a b e h = elim h [ ]
-accepted-none (u ∷ ts) a b e h =
-    by-test (u .applies) (λ q. absurd (refused-not-accepted (rw q at e)))
-    (λ q. elim h [ here d ↦ rw d q | there k ↦ accepted-none ts a b (rw q at e) k ])
 
 by-outcome : {A C : Type 0} (o : Outcome A) → ((k : ℕ) → o ≡ refused k → C) → ((a : A) → o ≡ accepted a → C) → C
 by-outcome (refused k) f g = f k refl

@@ -1,8 +1,8 @@
 -- What passes a test, in its order; and, in a list that ascends, what follows a member or a mark.
-use mathlib.Core.Path.{_≡_, refl}
-use mathlib.Core.Bool.{Bool, true, false, _&&_}
+use mathlib.Core.Path.{_≡_, refl, sym, _∙_}
+use mathlib.Core.Bool.{Bool, true, false, _&&_, and-comm}
 use mathlib.Core.Logic.{_↔_}
-use mathlib.Core.List.{List, [], _∷_, _++_}
+use mathlib.Core.List.{List, [], _∷_, _++_, map}
 use Prim.Native.Nat.{_≤_}
 use native.Mathlib.Omega.{arith}
 use lib.ListN.{length}
@@ -70,3 +70,12 @@ module _ {A : Type 0} (P : A → Bool) where
   sift-length [] = omega arith
   sift-length (x ∷ xs) =
       by-test (P x) (λ u. rw u (omega (arith, sift-length xs))) (λ u. rw u (omega (arith, sift-length xs)))
+
+pub sift-comm : {A : Type 0} (P Q : A → Bool) (xs : List A) → sift P (sift Q xs) ≡ sift Q (sift P xs)
+sift-comm P Q xs =
+    sift-sift P Q xs ∙ sift-same (λ a. Q a && P a) (λ a. P a && Q a) xs (λ a i. and-comm (Q a) (P a)) ∙ sym (sift-sift Q P xs)
+
+pub sift-map : {A B : Type 0} (P : B → Bool) (f : A → B) (xs : List A) → sift P (map f xs) ≡ map f (sift (λ x. P (f x)) xs)
+unfolding sift
+sift-map P f [] = refl
+sift-map P f (x ∷ xs) = by-test (P (f x)) (λ u. rw (u, sift-map P f xs)) (λ u. rw (u, sift-map P f xs))

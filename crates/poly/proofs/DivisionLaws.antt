@@ -7,13 +7,10 @@ use lib.Arith.{bin-ind}
 use lib.Pow.{pow-pos}
 use lib.Bits.{bitXor, differ, xor-step, xor-zero-l, xor-zero-r, xor-self, xor-comm, xor-shr, xor-block, xor-shifted, xor-lt}
 use Rattle.base.proofs.Cases.{by-order}
-use Rattle.base.proofs.XorLaws.{xor-assoc, xor-left-comm, xor-cancel, xor-half, xor-low, xor-ac}
+use Rattle.base.proofs.XorLaws.{mod-two-lt, xor-assoc, xor-left-comm, xor-cancel, xor-half, xor-low, xor-ac}
 use Rattle.poly.specs.Polynomial.{times, down, rem, reduce}
 use Rattle.poly.proofs.FoldLaws.{down-step, down-zero}
 use Rattle.poly.proofs.ProductLaws.{times-step, times-zero, digit-sum, digit-xor, xor-double, xor-digit, xor-join}
-
-bit : (a : ℕ) → a % 2 < 2
-bit a = omega arith
 
 pub reduce-is : (n g v : ℕ) → reduce n g v ≡ bitXor (v / 2 ^ n * g) v
 unfolding reduce
@@ -133,7 +130,7 @@ module _ (n g : ℕ) (low : 2 ^ n ≤ g) (high : g < 2 ^ suc n) where
       ∙ rem-xor (times (q / 2) g * 2) (q % 2 * g)
       ∙ ap₂ bitXor
       (rem-double (times (q / 2) g) ∙ ap (λ (x : ℕ). reduce n g (x * 2)) ih ∙ reduce-low n g 0 (pow-pos n))
-      (rem-digit (q % 2) (bit q)))
+      (rem-digit (q % 2) (mod-two-lt q)))
 
   -- a quotient exists
   pub quotient : (a : ℕ) → (q : ℕ) × (a ≡ bitXor (times q g) (rem n g a))
@@ -154,10 +151,10 @@ module _ (n g : ℕ) (low : 2 ^ n ≤ g) (high : g < 2 ^ suc n) where
           times-step (q * 2 + t) g ∙ ap₂ (λ (x y : ℕ). bitXor (times x g * 2) (y * g)) half digit in
           let split : a ≡ bitXor (times q g * 2) v =
           (omega arith ∙ ap (λ (x : ℕ). x * 2 + a % 2) e)
-          ∙ (sym (xor-digit (bitXor (times q g) r) (a % 2) (bit a))
+          ∙ (sym (xor-digit (bitXor (times q g) r) (a % 2) (mod-two-lt a))
           ∙ ap (λ (x : ℕ). bitXor x (a % 2)) (sym (xor-double (times q g) r))
           ∙ xor-assoc (times q g * 2) (r * 2) (a % 2)
-          ∙ ap (bitXor (times q g * 2)) (xor-digit r (a % 2) (bit a))) in
+          ∙ ap (bitXor (times q g * 2)) (xor-digit r (a % 2) (mod-two-lt a))) in
           let left : rem n g a ≡ bitXor (t * g) v = rem-step n g a ∙ reduce-is n g v in
           (q * 2 + t, split ∙ (sym (ap₂ bitXor product left ∙ simp xor-ac)))
 

@@ -1,6 +1,6 @@
 -- When a number is accepted as a generator, by each part of condition 1, and what is then known of it.
 use mathlib.Core.Path.{_≡_, refl, sym, ap, _∙_}
-use mathlib.Core.Bool.{Bool, true, false, _||_, or-true}
+use mathlib.Core.Bool.{Bool, true, false, true≢false, _||_, or-true}
 use Prim.Native.Nat.{ℕ, suc, _+_, _%_, _^_, _<_, _≤_}
 use native.Mathlib.Omega.{arith}
 use borrow.Author.Tests.{lt-ltb, le-ltb, eq-eqb, ne-eqb, ltb-true, ltb-false, eqb-true, eqb-false}
@@ -43,19 +43,16 @@ pub record Accepted (g : ℕ) : Type 0 where
 
 pub fit-accepted : (g : ℕ) → unfit g ≡ false → Accepted g
 fit-accepted g e =
-    by-test (eqb (g % 2) 0) (λ t. absurd (differ (sym (even-unfit g (eqb-true _ _ t)) ∙ e)))
+    by-test (eqb (g % 2) 0) (λ t. absurd (true≢false (sym (even-unfit g (eqb-true _ _ t)) ∙ e)))
     (λ o.
     let odd : g % 2 ≡ 0 → ⊥ = eqb-false _ _ o in
     let d = degree-of g (positive odd) in
     record {
       divisor = record { low = d .0; high = d .1; odd = omega arith };
-      least = by-test (ltb (degree g) 3) (λ t. absurd (differ (sym (narrow-unfit g (ltb-true _ _ t)) ∙ e))) (λ t. ltb-false _ _ t);
-      most = by-test (ltb 16 (degree g)) (λ t. absurd (differ (sym (wide-unfit g (ltb-true _ _ t)) ∙ e))) (λ t. ltb-false _ _ t);
+      least = by-test (ltb (degree g) 3) (λ t. absurd (true≢false (sym (narrow-unfit g (ltb-true _ _ t)) ∙ e))) (λ t. ltb-false _ _ t);
+      most = by-test (ltb 16 (degree g)) (λ t. absurd (true≢false (sym (wide-unfit g (ltb-true _ _ t)) ∙ e))) (λ t. ltb-false _ _ t);
     })
   where
-    differ : true ≡ false → ⊥
-    differ h = let z : _≡_ {A = ℕ} 0 1 = cc in omega arith
-
     positive : (g % 2 ≡ 0 → ⊥) → 0 < g
     positive o = omega arith
 

@@ -5,12 +5,9 @@ use native.Mathlib.Omega.{arith}
 use native.Mathlib.Nat.{zero-mul, mul-one, one-mul}
 use lib.Arith.{bin-ind}
 use lib.Bits.{bitXor, differ, xor-step, xor-zero-l, xor-zero-r, xor-self, xor-comm}
-use Rattle.base.proofs.XorLaws.{xor-assoc, xor-left-comm, xor-cancel, xor-half, xor-low, xor-ac}
+use Rattle.base.proofs.XorLaws.{mod-two-lt, xor-assoc, xor-left-comm, xor-cancel, xor-half, xor-low, xor-ac}
 use Rattle.poly.specs.Polynomial.{times, down}
 use Rattle.poly.proofs.FoldLaws.{down-step, down-zero}
-
-bit : (a : ℕ) → a % 2 < 2
-bit a = omega arith
 
 pub times-zero : (b : ℕ) → times 0 b ≡ 0
 unfolding times
@@ -69,7 +66,7 @@ times-xor-left a =
     times-step (bitXor m b) c
     ∙ ap₂ bitXor
     (ap (λ (x : ℕ). x * 2) (ap (λ (x : ℕ). times x c) (xor-half m b) ∙ ih (b / 2) c) ∙ sym (xor-double (times (m / 2) c) (times (b / 2) c)))
-    (ap (λ (x : ℕ). x * c) (xor-low m b) ∙ digit-sum (m % 2) (b % 2) c (bit m) (bit b))
+    (ap (λ (x : ℕ). x * c) (xor-low m b) ∙ digit-sum (m % 2) (b % 2) c (mod-two-lt m) (mod-two-lt b))
     ∙ (simp xor-ac)
     ∙ sym (ap₂ bitXor (times-step m c) (times-step b c)))
     a

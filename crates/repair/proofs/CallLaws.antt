@@ -24,7 +24,7 @@ use Rattle.repair.specs.Calls.{Repair, NamedWell, laterConditions}
 use Rattle.repair.specs.declared.Verdict.{Verdict}
 use Rattle.repair.specs.declared.Verdict.the-variants.{Intact, Repaired, Several, None}
 use Rattle.repair.proofs.ConditionLaws.{fit-copy}
-use Rattle.repair.proofs.VerdictLaws.{several-in}
+use Rattle.repair.proofs.SettleLaws.{several-in}
 
 pub settleable : {g : ℕ} {v : Generator} (packet : List ℕ) → Admitted g (8 * length packet) v → Bytes packet → (from to limit : ℕ) (steps firsts : List ℕ) (room : ℕ)
     {r : Judgement} → judgement r ≡ judgedRepair v from to limit steps firsts (length packet) room → r ≡ Passed

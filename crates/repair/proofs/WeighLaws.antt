@@ -10,7 +10,7 @@ use lib.ListN.{length, getD, drop}
 use lib.Seq.{drop-cons}
 use Rattle.base.specs.Lists.{All, none, each, Chain, empty, single, link}
 use Rattle.packet.specs.Packet.{Bytes, bits, bitAt}
-use Rattle.checksum.specs.Checksum.{share, place, weight, setWeight, clearWeight, total}
+use Rattle.checksum.specs.Totals.{share, place, weight, setWeight, clearWeight, total}
 use Rattle.checksum.proofs.SumLaws.{total-nil, total-one, total-two}
 use Rattle.checksum.proofs.WeightLaws.{setWeight-cons, clearWeight-cons}
 use Rattle.patterns.specs.Listing.{Ascending, none as end, next}

@@ -98,3 +98,10 @@ handedBack intact received copy = received
 handedBack (repaired p) received copy = copy
 handedBack (several k p) received copy = []
 handedBack nothing received copy = []
+
+-- which slice that is: the received one itself, or the copy itself
+abbrev pub HandedItself : {A : Type 0} → Said → A → A → A → Type 0
+HandedItself intact r received copy = r ≡ received
+HandedItself (repaired p) r received copy = r ≡ copy
+HandedItself (several k p) r received copy = Unit {0}
+HandedItself nothing r received copy = Unit {0}

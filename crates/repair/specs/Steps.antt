@@ -8,7 +8,8 @@ use Rattle.poly.specs.declared.Generator.{Generator}
 use Rattle.packet.specs.Packet.{Bytes, bits}
 use Rattle.tables.specs.Tables.{stepTable, firstTable}
 use Rattle.pages.specs.Judged.{Fit}
-use Rattle.checksum.specs.Checksum.{range, total}
+use Rattle.checksum.specs.Checksum.{range}
+use Rattle.checksum.specs.Totals.{total}
 use Rattle.patterns.specs.Patterns.{positions}
 use Rattle.patterns.specs.Listing.{Ascending}
 use Rattle.repair.specs.declared.Tally.{Tally}

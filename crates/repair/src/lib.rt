@@ -14,7 +14,8 @@ ghost use Prim.Native.Nat.{ℕ, _+_, _-_, _*_, _^_, _<_, _≤_};
 ghost use lib.ListN.{length, take, drop};
 ghost use Rattle.base.specs.Lists.{All};
 ghost use Rattle.packet.specs.Packet.{Bytes, bits, bitAt, flip, flips};
-ghost use Rattle.checksum.specs.Checksum.{multiple, passes, range, share, total, weight};
+ghost use Rattle.checksum.specs.Checksum.{passes, range};
+ghost use Rattle.checksum.specs.Totals.{multiple, share, total, weight};
 ghost use Rattle.patterns.specs.Patterns.{positions};
 ghost use Rattle.patterns.specs.Listing.{listing, sift};
 ghost use Rattle.pages.specs.Judged.{Fit, judgement};
@@ -29,6 +30,7 @@ ghost use Rattle.repair.specs.Calls.{
   AnswerNamesWell,
   repairOutput,
   handedBack,
+  HandedItself,
 };
 
 pub enum Verdict {
@@ -490,7 +492,8 @@ pub fn repair(
 
 // The packet to publish from: what was received, its repaired copy, or an empty part of what was received.
 pub fn hand_back<'a>(received: &'a [u8], copy: &'a [u8], verdict: Verdict) -> &'a [u8]
-    ensures { λ r. ⌜ now r ≡ handedBack (said verdict) (now (received .entry)) (now (copy .entry)) ⌝ }
+    ensures bytes { λ r. ⌜ now r ≡ handedBack (said verdict) (now (received .entry)) (now (copy .entry)) ⌝ }
+    ensures itself { λ r. ⌜ HandedItself (said verdict) r (received .entry) (copy .entry) ⌝ }
 {
     match verdict {
         Verdict::Intact => received,

@@ -14,9 +14,8 @@ use Rattle.base.proofs.Cases.{by-test}
 use Rattle.base.proofs.XorLaws.{xor-ac, xor-cancel}
 use Rattle.patterns.specs.Order.{lower}
 use Rattle.patterns.specs.Listing.{Ascending, next, choose, sift}
+use Rattle.patterns.proofs.SiftLaws.{sift-append, sift-map, sift-none, sift-same, sift-comm}
 use Rattle.search.specs.Search.{xorAll, summing, Head, nothing, leads, headOf, firstOf, firstAfter, answer}
-use Rattle.search.proofs.SiftLaws.{sift-append, sift-map, sift-none, sift-same, sift-comm, all-of}
-use Rattle.search.proofs.OrderLaws.{lower-nil}
 use Rattle.search.proofs.ChooseLaws.{choose-zero, choose-past, choose-step, choose-after}
 
 -- the first of two, and one with a position in front
@@ -64,7 +63,7 @@ module _ (power : ℕ → ℕ) where
   summing-map u p xs =
       sift-map (λ ps. eqb (xorAll power ps) u) (λ ps. p ∷ ps) xs
       ∙ ap (map (λ ps. p ∷ ps))
-      (sift-same (λ ps. eqb (xorAll power (p ∷ ps)) u) (λ ps. eqb (xorAll power ps) (bitXor u (power p))) (all-of (sum-cons p u) xs))
+      (sift-same (λ ps. eqb (xorAll power (p ∷ ps)) u) (λ ps. eqb (xorAll power ps) (bitXor u (power p))) xs (λ ps i. sum-cons p u ps))
 
   pub summing-sift : (u : ℕ) (P : List ℕ → Bool) (xs : List (List ℕ)) → sift P (summing power u xs) ≡ summing power u (sift P xs)
   unfolding summing
@@ -121,9 +120,9 @@ module _ (power : ℕ → ℕ) where
 
   -- nothing comes after the empty set among those of no positions
   pub firstAfter-empty : (l u : ℕ) (xs : List ℕ) → length xs ≡ 0 → firstAfter power l xs u ≡ nothing
-  unfolding firstAfter
+  unfolding firstAfter lower
   firstAfter-empty l u (x ∷ xs) h = absurd (omega arith)
-  firstAfter-empty l u [] h = ap headOf (sift-none (lower []) (all-of lower-nil (summing power u (choose l zero zero)))) ∙ head-nil
+  firstAfter-empty l u [] h = ap headOf (sift-none (lower []) (summing power u (choose l zero zero)) (λ q i. refl)) ∙ head-nil
 
   pub firstAfter-cons : (l p : ℕ) (ps : List ℕ) (u : ℕ) → Ascending l 0 (p ∷ ps)
       → firstAfter power l (p ∷ ps) u

@@ -8,13 +8,15 @@ use native.Mathlib.Omega.{arith}
 use lib.Dec.{eqb}
 use lib.ListN.{length, take, drop}
 use lib.Seq.{length-take-le, take-at}
-use Rattle.base.specs.Lists.{All, none, each}
+use Rattle.base.specs.Lists.{In, here}
 use Rattle.patterns.specs.Order.{lower, before}
+use Rattle.patterns.specs.StrictOrder.{Sorted}
 use Rattle.patterns.specs.Listing.{Ascending, choose, upTo, sift}
+use Rattle.patterns.proofs.OrderLaws.{before-strict-total, fewer-before, level-before}
+use Rattle.patterns.proofs.SiftLaws.{sift-append, sift-all, sift-none, sift-same, sift-in}
+use Rattle.patterns.proofs.SortedLaws.{not-back, sorted-behind, sorted-next}
+use Rattle.patterns.proofs.ListingLaws.{choose-in, upTo-in, sifted-in, sifted-sorted}
 use Rattle.search.specs.Search.{xorAll, summing, listed, Head, nothing, leads, headOf, rising, firstOf, firstAfter, answer, Leads}
-use Rattle.search.proofs.SiftLaws.{sift-append, sift-all, sift-none, sift-same, sift-skip, sift-within, passing, all-append, all-map, all-sift}
-use Rattle.search.proofs.OrderLaws.{before-fewer, before-more, before-equal, before-irrefl, before-trans, Sorted, nil, cons, sorted-append, sorted-sift}
-use Rattle.search.proofs.ChooseLaws.{choose-count, choose-ascending, choose-sorted}
 use Rattle.search.proofs.HeadLaws.{orElse, head-append, head-nil, summing-append, summing-sift, summing-nil, firstOf-whole}
 
 pub rising-none : (l k : ℕ) → rising l k zero ≡ []
@@ -53,21 +55,15 @@ upTo-rising l (suc n) =
     let e : suc n ≡ zero + suc n = omega arith in
     upTo-suc l n ∙ ap₂ (λ (x : List (List ℕ)) (j : ℕ). x ++ choose l j zero) (upTo-rising l n) e ∙ sym (rising-snoc l zero (suc n))
 
-upTo-count : (l n : ℕ) → All (λ q. length q ≤ n) (upTo l n)
-upTo-count l zero = rw upTo-zero (all-map (λ q e. omega arith) (choose-count l zero zero))
-upTo-count l (suc n) =
-    rw upTo-suc
-    (all-append (all-map (λ q e. omega arith) (upTo-count l n)) (all-map (λ q e. omega arith) (choose-count l (suc n) zero)))
-
 -- by the count, a set comes after none of the smaller ones, after those of its own count that are lower, and before all larger ones
 fewer-none : (p : List ℕ) (l n : ℕ) → n < length p → sift (before p) (upTo l n) ≡ []
-fewer-none p l n h = sift-none (before p) (all-map (λ q e. before-more p q (omega arith)) (upTo-count l n))
+fewer-none p l n h = sift-none (before p) (upTo l n) (λ q i. not-back before-strict-total q p (fewer-before q p (omega (arith, upTo-in l n i .1))))
 
 same-lower : (p : List ℕ) (l : ℕ) → sift (before p) (choose l (length p) zero) ≡ sift (lower p) (choose l (length p) zero)
-same-lower p l = sift-same (before p) (lower p) (all-map (λ q e. before-equal p q (sym e)) (choose-count l (length p) zero))
+same-lower p l = sift-same (before p) (lower p) (choose l (length p) zero) (λ q i. level-before p q (sym (choose-in l (length p) zero l (omega arith) q i .1)))
 
 more-all : (p : List ℕ) (l k : ℕ) → length p < k → sift (before p) (choose l k zero) ≡ choose l k zero
-more-all p l k h = sift-all (before p) (all-map (λ q e. before-fewer p q (omega arith)) (choose-count l k zero))
+more-all p l k h = sift-all (before p) (choose l k zero) (λ q i. fewer-before p q (omega (arith, choose-in l k zero l (omega arith) q i .1)))
 
 own-count : (p : List ℕ) (l n : ℕ) → length p ≡ n → sift (before p) (upTo l n) ≡ sift (lower p) (choose l (length p) zero)
 own-count p l zero e =
@@ -92,38 +88,11 @@ after-split p l (suc n) (suc m) e =
     ∙ append-assoc (sift (lower p) (choose l (length p) zero)) (rising l (suc (length p)) m) (choose l (suc (length p) + m) zero)
     ∙ ap (λ (x : List (List ℕ)). sift (lower p) (choose l (length p) zero) ++ x) (sym (rising-snoc l (suc (length p)) m))
 
--- among sets of one count the order is that of the positions
-counted-sorted : {k : ℕ} {xs : List (List ℕ)} → All (λ q. length q ≡ k) xs → Sorted lower xs → Sorted before xs
-counted-sorted none nil = nil
-counted-sorted {k = k} (each {x = x} e es) (cons h s) = cons (both es h) (counted-sorted es s)
-  where
-    both : {ys : List (List ℕ)} → All (λ q. length q ≡ k) ys → All (λ q. lower x q ≡ true) ys → All (λ q. before x q ≡ true) ys
-    both none none = none
-    both (each {x = q} f fs) (each g gs) = each (before-equal x q (e ∙ sym f) ∙ g) (both fs gs)
-
-upTo-sorted : (l n : ℕ) → Sorted before (upTo l n)
-upTo-sorted l zero = rw upTo-zero (counted-sorted (choose-count l zero zero) (choose-sorted l zero zero))
-upTo-sorted l (suc n) =
-    rw upTo-suc
-    (sorted-append before (upTo-sorted l n) (counted-sorted (choose-count l (suc n) zero) (choose-sorted l (suc n) zero))
-    (all-map (λ p h. all-map (λ q e. before-fewer p q (omega arith)) (choose-count l (suc n) zero)) (upTo-count l n)))
-
-upTo-ascending : (l n : ℕ) → All (Ascending l 0) (upTo l n)
-upTo-ascending l zero = rw upTo-zero (choose-ascending l l zero zero (omega arith))
-upTo-ascending l (suc n) = rw upTo-suc (all-append (upTo-ascending l n) (choose-ascending l l (suc n) zero (omega arith)))
-
-pub head-all : {R : List ℕ → Type 0} {xs : List (List ℕ)} {q : List ℕ} → All R xs → headOf xs ≡ leads q → R q
+-- what has a first is that and the rest
+head-cons : (xs : List (List ℕ)) (q : List ℕ) → headOf xs ≡ leads q → (rest : List (List ℕ)) × (xs ≡ q ∷ rest)
 unfolding headOf
-head-all none h = absurd (let z : _≡_ {A = ℕ} 0 1 = cc in omega arith)
-head-all {R} {q = q} (each {x = x} r rs) h = let e : q ≡ x = cc in rw e r
-
--- in a list that ascends, behind the first stands what comes after it
-head-rest : (xs : List (List ℕ)) (q : List ℕ) → Sorted before xs → headOf xs ≡ leads q → xs ≡ q ∷ sift (before q) xs
-unfolding headOf
-head-rest [] q s h = absurd (let z : _≡_ {A = ℕ} 0 1 = cc in omega arith)
-head-rest (x ∷ xs) q (cons m s) h =
-    let e : q ≡ x = cc in
-    rw e (ap (λ (ys : List (List ℕ)). x ∷ ys) (sym (sift-skip (before x) x xs (before-irrefl x) ∙ sift-all (before x) m)))
+head-cons [] q h = absurd (let z : _≡_ {A = ℕ} 0 1 = cc in omega arith)
+head-cons (x ∷ xs) q h = (xs, cc)
 
 pub head-none : (xs : List (List ℕ)) → headOf xs ≡ nothing → xs ≡ []
 unfolding headOf
@@ -133,24 +102,26 @@ head-none (x ∷ xs) h = absurd (let z : _≡_ {A = ℕ} 0 1 = cc in omega arith
 module _ (power : ℕ → ℕ) (l n s : ℕ) where
   listed-sorted : Sorted before (listed power l n s)
   unfolding listed summing
-  listed-sorted = sorted-sift before (λ ps. eqb (xorAll power ps) s) (upTo-sorted l n)
+  listed-sorted = sifted-sorted (λ ps. eqb (xorAll power ps) s) l n
 
-  listed-ascending : All (Ascending l 0) (listed power l n s)
+  listed-ascends : {q : List ℕ} → In q (listed power l n s) → Ascending l 0 q
   unfolding listed summing
-  listed-ascending = all-sift (λ ps. eqb (xorAll power ps) s) (upTo-ascending l n)
+  listed-ascends h = sifted-in (λ ps. eqb (xorAll power ps) s) l n h .0
 
   pub first-leads : (q : List ℕ) → headOf (listed power l n s) ≡ leads q → Leads l (listed power l n s) (listed power l n s) q
-  first-leads q h = record { split = head-rest (listed power l n s) q listed-sorted h; ascends = head-all listed-ascending h }
+  first-leads q h =
+      let r = head-cons (listed power l n s) q h in
+      let behind = ap (sift (before q)) (r .1) ∙ sorted-behind before-strict-total [] q (r .0) (rw (r .1) at listed-sorted) in
+      record { split = r .1 ∙ ap (λ (ys : List (List ℕ)). q ∷ ys) (sym behind); ascends = listed-ascends (rw (r .1) (here refl)) }
 
   pub next-leads : (p q : List ℕ) → headOf (sift (before p) (listed power l n s)) ≡ leads q
       → Leads l (listed power l n s) (sift (before p) (listed power l n s)) q
   next-leads p q h =
-      let after = head-all (passing (before p) (listed power l n s)) h in
+      let r = head-cons (sift (before p) (listed power l n s)) q h in
+      let behind = sorted-next before-strict-total (before p) (before-strict-total .transitive p) listed-sorted q (r .0) (r .1) in
       record {
-        split =
-            head-rest (sift (before p) (listed power l n s)) q (sorted-sift before (before p) listed-sorted) h
-            ∙ ap (λ (ys : List (List ℕ)). q ∷ ys) (sift-within (before q) (before p) (λ r e. before-trans p q r after e) (listed power l n s));
-        ascends = head-all (all-sift (before p) listed-ascending) h;
+        split = r .1 ∙ ap (λ (ys : List (List ℕ)). q ∷ ys) (sym behind);
+        ascends = listed-ascends (sift-in (before p) (listed power l n s) (rw (r .1) (here refl)) .0);
       }
 
   -- count by count

@@ -10,8 +10,8 @@ use lib.ListN.{length, getD, take, drop, set}
 use lib.Seq.{drop-length, take-length}
 use borrow.Rule.Slice.PartMut.{midOf, putMid, mid-len}
 use Rattle.patterns.specs.Listing.{Ascending, none as ends, next}
+use Rattle.patterns.proofs.ListingLaws.{ascending-from}
 use Rattle.search.specs.Search.{Head, leads, firstOf, firstAfter, answer, Lookup, Nearest}
-use Rattle.search.proofs.ChooseLaws.{ascending-from}
 use Rattle.search.proofs.HeadLaws.{orElse, onto, firstAfter-cons, firstAfter-empty}
 use Rattle.search.proofs.NearestLaws.{place-turn, nearest-first}
 

@@ -1,21 +1,16 @@
 -- What a search goes through and what it answers, over any powers: the sets of positions whose powers have a given
 -- sum, and the first of them.
-use Prim.Native.Nat.{ℕ, zero, suc, _+_, _-_, _*_, _^_, _≤_, _<_}
+use Prim.Native.Nat.{ℕ, zero, suc, _+_, _-_, _*_, _≤_, _<_}
 use mathlib.Core.Path.{_≡_}
 use mathlib.Core.Bool.{Bool, true, false}
 use mathlib.Core.List.{List, [], _∷_, _++_}
 use lib.Bits.{bitXor}
 use lib.Dec.{eqb}
 use lib.ListN.{length, getD, take}
-use Rattle.poly.specs.Polynomial.{rem}
 use Rattle.patterns.specs.Order.{lower, before}
 use Rattle.patterns.specs.Listing.{Ascending, choose, upTo, sift}
 use Rattle.search.specs.declared.Found.{Found}
 use Rattle.search.specs.declared.Found.the-variants.{At, Nothing}
-
--- the power of x at position p, as a generator g of degree n leaves it
-unfoldable pub power : ℕ → ℕ → ℕ → ℕ
-power n g p = rem n g (2 ^ p)
 
 -- the sum of the powers at the given positions
 unfoldable pub xorAll : (ℕ → ℕ) → List ℕ → ℕ

@@ -1,6 +1,6 @@
 -- The least number that passes a test: it passes, and nothing that passes is below it; and the pigeonhole principle.
 use mathlib.Core.Path.{_≡_, refl, sym, ap, _∙_}
-use mathlib.Core.Bool.{Bool, true, false}
+use mathlib.Core.Bool.{Bool, true, false, true≢false}
 use mathlib.Core.Logic.{_⊎_, inl, inr}
 use Prim.Native.Nat.{ℕ, zero, suc, _+_, _-_, _<_, _≤_}
 use native.Mathlib.Omega.{arith}
@@ -9,9 +9,6 @@ use lib.Dec.{ltb}
 use Rattle.base.specs.Outcome.{pick}
 use Rattle.base.proofs.Cases.{by-test, by-order, by-equal}
 use Rattle.tables.specs.Tables.{least}
-
-differ : true ≡ false → ⊥
-differ h = let z : _≡_ {A = ℕ} 0 1 = cc in omega arith
 
 module _ (test : ℕ → Bool) (other : ℕ) where
   -- where k passes, the least one passes, and is no greater
@@ -27,7 +24,7 @@ module _ (test : ℕ → Bool) (other : ℕ) where
       by-test (test from)
       (λ e. rw (e, least) (record { passes = e; atLeast = omega arith; atMost = l }))
       (λ e. rw (e, least)
-      (let off : from ≡ k → ⊥ = λ s. differ (sym t ∙ ap test (sym s) ∙ e) in
+      (let off : from ≡ k → ⊥ = λ s. true≢false (sym t ∙ ap test (sym s) ∙ e) in
       let f = least-found count (suc from) k (omega arith) (omega arith) t in
       record { passes = f .passes; atLeast = omega (arith, f .atLeast); atMost = f .atMost }))
 

@@ -1,6 +1,6 @@
 -- The tables as lists: their lengths and entries, a list that has those entries is the table, and the tests of conditions 5 and 6 say what they mean.
 use mathlib.Core.Path.{_≡_, refl, sym, ap, ap₂, _∙_}
-use mathlib.Core.Bool.{Bool, true, false, not, or-true}
+use mathlib.Core.Bool.{Bool, true, false, true≢false, not, or-true}
 use mathlib.Core.List.{List, [], _∷_}
 use Prim.Native.Nat.{ℕ, zero, suc, _+_, _^_, _<_, _≤_}
 use native.Mathlib.Omega.{arith}
@@ -80,9 +80,6 @@ firstTable-by-powers n g d atLeast atMost l e at other = firstTable-by-entries n
         let none : (p : ℕ) → power n g p ≡ s → ⊥ = λ p z. omega (arith, first-present n g d atLeast atMost s p z) in
         other s b none ∙ sym (first-none n g d atLeast atMost s b .1 none))
 
-apart : true ≡ false → ⊥
-apart h = let z : _≡_ {A = ℕ} 0 1 = cc in omega arith
-
 -- the test for the same list
 pub same-equal : (a b : List ℕ) → same a b ≡ true → a ≡ b
 unfolding same
@@ -105,7 +102,7 @@ equal-same a b e = ap (same a) (sym e) ∙ same-self a
 pub zero-same : (w : ℕ) (a b : List ℕ) → (w ≡ 0 → a ≡ b) → (a ≡ b → w ≡ 0) → eqb w 0 ≡ same a b
 zero-same w a b f h =
     by-test (same a b) (λ t. eq-eqb w 0 (h (same-equal a b t)) ∙ sym t)
-    (λ t. ne-eqb w 0 (λ z. apart (sym (equal-same a b (f z)) ∙ t)) ∙ sym t)
+    (λ t. ne-eqb w 0 (λ z. true≢false (sym (equal-same a b (f z)) ∙ t)) ∙ sym t)
 
 -- condition 5
 pub unfit-steps : (n : ℕ) (a b : ℕ) → (a ≡ 2 ^ n → ⊥) → unfitTables n a b ≡ true
@@ -128,8 +125,8 @@ pub fit-lengths : (n : ℕ) (a b : ℕ) → unfitTables n a b ≡ false → (a �
 unfolding unfitTables
 fit-lengths n a b e =
     by-test (eqb a (2 ^ n))
-    (λ s. by-test (eqb b (2 ^ n)) (λ t. (eqb-true _ _ s, eqb-true _ _ t)) (λ t. absurd (apart (sym (unfit-firsts n a b (eqb-false _ _ t)) ∙ e))))
-    (λ s. absurd (apart (sym (unfit-steps n a b (eqb-false _ _ s)) ∙ e)))
+    (λ s. by-test (eqb b (2 ^ n)) (λ t. (eqb-true _ _ s, eqb-true _ _ t)) (λ t. absurd (true≢false (sym (unfit-firsts n a b (eqb-false _ _ t)) ∙ e))))
+    (λ s. absurd (true≢false (sym (unfit-steps n a b (eqb-false _ _ s)) ∙ e)))
 
 -- condition 6
 pub right-tables : (n g : ℕ) (a b : List ℕ) → rightTables n g a b ≡ true → (a ≡ stepTable n g) × (b ≡ firstTable n g)
@@ -137,7 +134,7 @@ unfolding rightTables
 right-tables n g a b e =
     by-test (same a (stepTable n g))
     (λ s. (same-equal a (stepTable n g) s, same-equal b (firstTable n g) (rw s at e)))
-    (λ s. absurd (apart (sym (rw s at e))))
+    (λ s. absurd (true≢false (sym (rw s at e))))
 
 pub tables-right : (n g : ℕ) → rightTables n g (stepTable n g) (firstTable n g) ≡ true
 unfolding rightTables

@@ -3,8 +3,6 @@
 // The expected output was not made by this code. Five's first positions are those of document 000's tables 2 and 3, with 65535
 // for its -1; its steps were found by trying every t. The periods of the catalogue's generators are the least exponents whose
 // powers, by squaring, leave 1.
-use base::Refusal;
-use libc::STDOUT_FILENO;
 use poly::Construction;
 use tables::TablesAnswer;
 ghost use Prim.Native.Nat.{_≤_};
@@ -114,33 +112,15 @@ const SIZES: [usize; 47] = [
 // What the slices hold before a call that is turned down.
 const MARK: u16 = 7777;
 
-fn print(word: &[u8]) {
-    io::write_all(STDOUT_FILENO, word);
-}
-
-fn print_number(n: u64, separator: u8) {
-    io::print_decimal(STDOUT_FILENO, n);
-    io::write_all(STDOUT_FILENO, &[separator]);
-}
-
-fn refusal_number(r: Refusal) -> u64 {
-    match r {
-        Refusal::Generator => 1,
-        Refusal::TableLength => 5,
-        _ => 0,
-    }
-}
-
 fn build(generator: u64, steps: &mut [u16], firsts: &mut [u16]) {
     let answer = tables::tables(generator, steps, firsts);
     match answer {
         TablesAnswer::Built(c) => {
-            print(b"period ");
-            print_number(c, b'\n');
+            testkit::print(b"period ");
+            testkit::print_number(c, b'\n');
         }
         TablesAnswer::Refused(r) => {
-            print(b"refused ");
-            print_number(refusal_number(r), b'\n');
+            testkit::print_refused(r, b'\n');
         }
     }
 }
@@ -149,10 +129,10 @@ fn build(generator: u64, steps: &mut [u16], firsts: &mut [u16]) {
 fn print_tables(steps: &[u16], firsts: &[u16]) {
     let mut s: usize = 0;
     while s < steps.len() {
-        print_number(s as u64, b' ');
-        print_number(wide(steps[s]), b' ');
+        testkit::print_number(s as u64, b' ');
+        testkit::print_number(wide(steps[s]), b' ');
         if s < firsts.len() {
-            print_number(wide(firsts[s]), b'\n');
+            testkit::print_number(wide(firsts[s]), b'\n');
         }
         s += 1;
     }
@@ -225,9 +205,9 @@ fn places(generator: u64, steps: &mut [u16], firsts: &mut [u16], apart: usize)
 {
     let mut s: usize = 0;
     while s < steps.len() {
-        print_number(s as u64, b' ');
-        print_number(found_in_steps(generator, steps, firsts, s), b' ');
-        print_number(found_in_firsts(generator, steps, firsts, s), b'\n');
+        testkit::print_number(s as u64, b' ');
+        testkit::print_number(found_in_steps(generator, steps, firsts, s), b' ');
+        testkit::print_number(found_in_firsts(generator, steps, firsts, s), b'\n');
         s += apart;
     }
 }
@@ -237,9 +217,9 @@ fn breakage(generator: u64, steps: &mut [u16], firsts: &mut [u16], apart: usize)
     requires { ⌜ (1 ≤ apart) × (apart ≤ 65536) ⌝ }
 {
     build(generator, steps, firsts);
-    print_number(verdict(generator, steps, firsts), b'\n');
+    testkit::print_number(verdict(generator, steps, firsts), b'\n');
     places(generator, steps, firsts, apart);
-    print_number(verdict(generator, steps, firsts), b'\n');
+    testkit::print_number(verdict(generator, steps, firsts), b'\n');
 }
 
 fn mark(s: &mut [u16]) {
@@ -275,8 +255,8 @@ fn turned_down(generator: u64, steps: &mut [u16], firsts: &mut [u16]) {
     mark(steps);
     mark(firsts);
     build(generator, steps, firsts);
-    print_number(kept(steps), b' ');
-    print_number(kept(firsts), b'\n');
+    testkit::print_number(kept(steps), b' ');
+    testkit::print_number(kept(firsts), b'\n');
 }
 
 // The same with so many entries of each slice.
@@ -304,7 +284,7 @@ fn row(generator: u64, size: usize, steps: &mut [u16], firsts: &mut [u16]) {
     if firsts.len() < size {
         return;
     }
-    print_number(generator, b' ');
+    testkit::print_number(generator, b' ');
     build(generator, &mut steps[..size], &mut firsts[..size]);
 }
 

@@ -1,10 +1,8 @@
 // What the test programs share: numbers of a text, bytes from a seed, a hash, and printing.
 use base::Refusal;
 use libc::STDOUT_FILENO;
-ghost use mathlib.Core.Path.{_≡_};
 ghost use Prim.Native.Nat.{_^_, _<_, _≤_};
 ghost use lib.ListN.{length};
-ghost use Rattle.base.specs.Refusals.{number as refusalNumber};
 
 // A number that was read from a text, and the place behind its last digit.
 pub struct Reading {
@@ -94,24 +92,6 @@ pub fn hash(bytes: &[u8]) -> u64 {
     h
 }
 
-// The number that document 01's table gives to a refusal.
-pub fn refusal_number(r: Refusal) -> u64
-    ensures { λ k. ⌜ k ≡ refusalNumber r ⌝ }
-{
-    match r {
-        Refusal::Generator => 1,
-        Refusal::Length => 2,
-        Refusal::Limit => 3,
-        Refusal::Syndrome => 4,
-        Refusal::TableLength => 5,
-        Refusal::TableEntry => 6,
-        Refusal::Mark => 7,
-        Refusal::Output => 8,
-        Refusal::Range => 9,
-        Refusal::Field => 10,
-    }
-}
-
 // Prints a word as it stands.
 pub fn print(word: &[u8]) {
     io::write_all(STDOUT_FILENO, word);
@@ -126,5 +106,5 @@ pub fn print_number(n: u64, separator: u8) {
 // Prints "refused", the number of the refusal and a separator.
 pub fn print_refused(r: Refusal, separator: u8) {
     io::write_all(STDOUT_FILENO, b"refused ");
-    print_number(refusal_number(r), separator);
+    print_number(base::number_of(r), separator);
 }

@@ -1,7 +1,7 @@
 -- `decide` tells a positive multiple of FFFFh.
 use mathlib.Core.Path.{sym, ap, _∙_}
 use native.Mathlib.Omega.{arith}
-use Rattle.checksum.specs.Checksum.{multiple}
+use Rattle.checksum.specs.Totals.{multiple}
 use Rattle.checksum.proofs.SumLaws.{multiple-zero, multiple-positive}
 use Rattle.checksum.proofs.decide.Statement.{statement}
 use Rattle.checksum.proofs.decide.Tie as tie

@@ -3,7 +3,7 @@
 use Prim.Native.Nat.{_+_, _-_, _*_, _≤_}
 use mathlib.Core.Path.{_≡_}
 use lib.ListN.{length, drop}
-use Rattle.checksum.specs.Checksum.{total}
+use Rattle.checksum.specs.Totals.{total}
 use Rattle.checksum.proofs.SumLaws.{total-turn, total-past}
 use borrow.Author.Needs.{needs}
 use native.Mathlib.Omega.{arith}

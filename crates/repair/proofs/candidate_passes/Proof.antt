@@ -3,7 +3,7 @@ use mathlib.Core.Path.{sym, ap, _∙_}
 use borrow.Author.Needs.{needs}
 use Rattle.packet.specs.Packet.{flips}
 use Rattle.packet.proofs.FlipLaws.{flips-bytes}
-use Rattle.checksum.specs.Checksum.{multiple}
+use Rattle.checksum.specs.Totals.{multiple}
 use Rattle.checksum.proofs.RangeLaws.{passes-total}
 use Rattle.repair.proofs.WeighLaws.{ascending-all}
 use Rattle.repair.proofs.candidate_passes.Statement.{statement}

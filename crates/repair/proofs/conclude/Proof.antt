@@ -10,7 +10,7 @@ use Rattle.packet.specs.Packet.{bits, polynomial, flips}
 use Rattle.checksum.specs.Checksum.{passes}
 use Rattle.repair.specs.Verdicts.{said}
 use Rattle.repair.specs.Judged.{madeCandidates}
-use Rattle.repair.proofs.VerdictLaws.{repaired-in, repaired-output, intact-output, nothing-output, several-output, candidate-within}
+use Rattle.repair.proofs.SettleLaws.{repaired-in, repaired-output, intact-output, nothing-output, several-output, candidate-within}
 use Rattle.repair.proofs.conclude.Statement.{statement}
 use Rattle.repair.proofs.conclude.Tie as tie
 

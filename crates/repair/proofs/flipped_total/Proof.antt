@@ -7,7 +7,8 @@ use native.Mathlib.Omega.{arith}
 use borrow.Author.Needs.{needs}
 use lib.ListN.{length, drop, getD, drop-of-length-le}
 use Rattle.packet.specs.Packet.{bitAt, flips}
-use Rattle.checksum.specs.Checksum.{weight, setWeight, clearWeight, total, range}
+use Rattle.checksum.specs.Checksum.{range}
+use Rattle.checksum.specs.Totals.{weight, setWeight, clearWeight, total}
 use Rattle.checksum.proofs.WeightLaws.{total-flips, setWeight-nil, clearWeight-nil}
 use Rattle.repair.proofs.WeighLaws.{ascending-chain, ascending-all, ascending-at, clear-turn, set-turn, digit-multiple}
 use Rattle.repair.proofs.flipped_total.Statement.{statement}

@@ -13,7 +13,7 @@ use Rattle.pages.proofs.CallLaws.{admitted-fit, later-refused, later-passed}
 use Rattle.repair.specs.Verdicts.{passesBoth, candidates, verdict, output}
 use Rattle.repair.specs.Judged.{judgedPacket, judgedOutput}
 use Rattle.repair.specs.Calls.{Repair, laterConditions, namedBy}
-use Rattle.repair.proofs.VerdictLaws.{verdict-named}
+use Rattle.repair.proofs.SettleLaws.{verdict-named}
 use Rattle.repair.proofs.CallLaws.{firstVerdict, settleable, verdict-made, output-made, names-well}
 use Rattle.repair.proofs.repair.Statement.{statement}
 use Rattle.repair.proofs.repair.Tie as tie

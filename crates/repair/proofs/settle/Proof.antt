@@ -10,7 +10,8 @@ use lib.ListN.{length}
 use Rattle.base.proofs.JudgeLaws.{passed, stopped}
 use Rattle.poly.proofs.DivisionLaws.{rem-lt}
 use Rattle.packet.specs.Packet.{bits, polynomial}
-use Rattle.checksum.specs.Checksum.{range, total, multiple, passes}
+use Rattle.checksum.specs.Checksum.{range, passes}
+use Rattle.checksum.specs.Totals.{total, multiple}
 use Rattle.checksum.proofs.RangeLaws.{passes-total, range-bytes, range-length}
 use Rattle.patterns.specs.Listing.{listing, sift}
 use Rattle.repair.specs.Steps.{Tallied, earliest}

@@ -5,7 +5,7 @@ use native.Mathlib.Omega.{arith}
 use native.Mathlib.Nat.{mul-le-mul}
 use borrow.Author.Needs.{needs}
 use lib.Pow.{shl-exact, pow-mono}
-use Rattle.checksum.specs.Checksum.{weight}
+use Rattle.checksum.specs.Totals.{weight}
 use Rattle.repair.proofs.weight_of.Statement.{statement}
 use Rattle.repair.proofs.weight_of.Tie as tie
 

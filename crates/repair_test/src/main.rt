@@ -1,0 +1,313 @@
+// Reads packets and tables from standard input, and prints the verdict on each packet, its output and what is handed back.
+//
+// The input: the number of groups. A group: the generator and the size of the tables to build, a change (0 steps, 1 firsts;
+// the place; what is XORed in), how many entries of each are lent, and the number of its cases. A case: generator, range and
+// limit of the calls, the packet's length and its bytes as testkit::read_packet takes them, the room for the output, a first
+// position, and how many from there on are flipped in turn, each alone, after a call with none. Generators, ranges and limits
+// are given by their high and low 32 bits.
+use libc::STDIN_FILENO;
+use packet::RemainderAnswer;
+use patterns::Pattern;
+use repair::RepairAnswer;
+use repair::Verdict;
+use testkit::Reading;
+ghost use Prim.Native.Nat.{_≤_};
+
+// What every call of a case is given.
+struct Setting {
+    generator: u64,
+    from: usize,
+    to: usize,
+    limit: usize,
+}
+
+// A number given by its high and low 32 bits.
+fn wide(text: &[u8], at: usize) -> Reading {
+    let high = testkit::number(text, at);
+    let low = testkit::number(text, high.next);
+    Reading {
+        value: high.value * 4294967296 + low.value,
+        next: low.next,
+    }
+}
+
+fn least(n: usize, most: usize) -> usize
+    ensures { λ r. ⌜ r ≤ most ⌝ }
+{
+    if n < most {
+        return n;
+    }
+    most
+}
+
+// Flips the bit at a position of the packet; another position changes nothing.
+fn flip(packet: &mut [u8], p: usize) {
+    if p / 8 < packet.len() {
+        let i = packet.len() - 1 - p / 8;
+        packet[i] = packet[i] ^ (1u8 << (p % 8));
+    }
+}
+
+fn flip_position(packet: &mut [u8], p: u16) {
+    flip(packet, p as usize);
+}
+
+fn flip_each(packet: &mut [u8], pos: &[u16]) {
+    let mut i = 0;
+    while i < pos.len() {
+        flip_position(packet, pos[i]);
+        i += 1;
+    }
+}
+
+fn wide_position(p: u16) -> u64 {
+    p as u64
+}
+
+fn print_positions(pos: &[u16]) {
+    let mut i = 0;
+    while i < pos.len() {
+        testkit::print_number(wide_position(pos[i]), b' ');
+        i += 1;
+    }
+}
+
+fn print_pattern(p: Pattern) {
+    let held = patterns::spread(p);
+    let n = least(patterns::count_of(p), 4);
+    print_positions(&held[..n]);
+}
+
+fn print_remainder(generator: u64, packet: &[u8]) {
+    match packet::remainder(generator, packet) {
+        RemainderAnswer::Remainder(r) => testkit::print_number(r, b' '),
+        RemainderAnswer::Refused(r) => testkit::print_refused(r, b' '),
+    }
+}
+
+fn print_sum(from: usize, to: usize, packet: &[u8]) {
+    if from <= to {
+        if to <= packet.len() {
+            testkit::print_number(checksum::sum(&packet[from..to]) as u64, b' ');
+        }
+    }
+}
+
+// The remainder and the sum with the pattern's bits flipped; the packet is then as it was.
+fn print_checks(set: Setting, p: Pattern, packet: &mut [u8]) {
+    let held = patterns::spread(p);
+    let n = least(patterns::count_of(p), 4);
+    flip_each(packet, &held[..n]);
+    print_remainder(set.generator, packet);
+    print_sum(set.from, set.to, packet);
+    flip_each(packet, &held[..n]);
+}
+
+// The verdict. Which pattern Several names is left open, so that its checks are printed in its place.
+fn print_verdict(set: Setting, verdict: Verdict, packet: &mut [u8]) {
+    match verdict {
+        Verdict::Intact => testkit::print(b"intact "),
+        Verdict::Repaired(p) => {
+            testkit::print(b"repaired ");
+            print_pattern(p);
+        }
+        Verdict::Several(k, p) => {
+            testkit::print(b"several ");
+            testkit::print_number(k, b' ');
+            print_checks(set, p, packet);
+        }
+        Verdict::None => testkit::print(b"none "),
+    }
+}
+
+// The length and the hash of the packet to publish from.
+fn print_published(published: &[u8]) {
+    testkit::print_number(published.len() as u64, b' ');
+    testkit::print_number(testkit::hash(published), b'\n');
+}
+
+fn print_told(set: Setting, verdict: Verdict, packet: &mut [u8], out: &[u8]) {
+    print_verdict(set, verdict, packet);
+    testkit::print_number(testkit::hash(out), b' ');
+    print_published(repair::hand_back(packet, out, verdict));
+}
+
+// One repair call, and a line for it.
+fn ask(set: Setting, steps: &[u16], firsts: &[u16], packet: &mut [u8], out: &mut [u8]) {
+    testkit::fill(out, 1);
+    let answer = repair::repair(
+        set.generator,
+        set.from,
+        set.to,
+        set.limit,
+        steps,
+        firsts,
+        packet,
+        out,
+    );
+    match answer {
+        RepairAnswer::Refused(r) => {
+            testkit::print_refused(r, b' ');
+            testkit::print_number(testkit::hash(out), b'\n');
+        }
+        RepairAnswer::Told(verdict) => print_told(set, verdict, packet, out),
+    }
+}
+
+// The same with one more bit flipped.
+fn ask_flipped(
+    set: Setting,
+    steps: &[u16],
+    firsts: &[u16],
+    p: usize,
+    packet: &mut [u8],
+    out: &mut [u8],
+) {
+    flip(packet, p);
+    ask(set, steps, firsts, packet, out);
+    flip(packet, p);
+}
+
+// A call with each of some positions flipped alone.
+fn sweep(
+    set: Setting,
+    steps: &[u16],
+    firsts: &[u16],
+    first: u64,
+    count: u64,
+    packet: &mut [u8],
+    out: &mut [u8],
+) {
+    let mut i: u64 = 0;
+    while i < count {
+        let p = std::num::wrapping_add_u64(first, i) as usize;
+        ask_flipped(set, steps, firsts, p, packet, out);
+        i += 1;
+    }
+}
+
+// The calls of a case, its packet in a lent slice; the answer is the place behind the case.
+fn calls(
+    set: Setting,
+    text: &[u8],
+    at: usize,
+    steps: &[u16],
+    firsts: &[u16],
+    packet: &mut [u8],
+) -> usize {
+    let next = testkit::read_packet(text, at, packet);
+    let room = testkit::number(text, next);
+    let first = testkit::number(text, room.next);
+    let count = testkit::number(text, first.next);
+    let mut space = [0u8; 1024];
+    let n = io::count(room.value as isize, &space);
+    let out = &mut space[..n];
+    ask(set, steps, firsts, packet, out);
+    sweep(set, steps, firsts, first.value, count.value, packet, out);
+    count.next
+}
+
+// One case from `at` on; the answer is the place behind it.
+fn case(text: &[u8], at: usize, steps: &[u16], firsts: &[u16]) -> usize {
+    let generator = wide(text, at);
+    let from = wide(text, generator.next);
+    let to = wide(text, from.next);
+    let limit = wide(text, to.next);
+    let len = testkit::number(text, limit.next);
+    let set = Setting {
+        generator: generator.value,
+        from: from.value as usize,
+        to: to.value as usize,
+        limit: limit.value as usize,
+    };
+    let mut space = [0u8; 1024];
+    let n = io::count(len.value as isize, &space);
+    calls(set, text, len.next, steps, firsts, &mut space[..n])
+}
+
+// So many cases from `at` on; the answer is the place behind them.
+fn cases(text: &[u8], at: usize, count: u64, steps: &[u16], firsts: &[u16]) -> usize {
+    let mut next = at;
+    let mut left = count;
+    while 0 < left {
+        next = case(text, next, steps, firsts);
+        left -= 1;
+    }
+    next
+}
+
+fn change(table: &mut [u16], at: usize, by: u16) {
+    if at < table.len() {
+        table[at] = table[at] ^ by;
+    }
+}
+
+// The tables of a generator, in so many entries of both slices.
+fn build(generator: u64, size: usize, steps: &mut [u16], firsts: &mut [u16]) {
+    if steps.len() < size {
+        return;
+    }
+    if firsts.len() < size {
+        return;
+    }
+    tables::tables(generator, &mut steps[..size], &mut firsts[..size]);
+}
+
+fn prepare(text: &[u8], at: usize, steps: &mut [u16], firsts: &mut [u16]) -> usize {
+    let generator = wide(text, at);
+    let size = testkit::number(text, generator.next);
+    build(generator.value, size.value as usize, steps, firsts);
+    size.next
+}
+
+// One entry of a table changed.
+fn spoil(text: &[u8], at: usize, steps: &mut [u16], firsts: &mut [u16]) -> usize {
+    let which = testkit::number(text, at);
+    let place = testkit::number(text, which.next);
+    let by = testkit::number(text, place.next);
+    if which.value == 0 {
+        change(steps, place.value as usize, (by.value % 65536) as u16);
+        return by.next;
+    }
+    change(firsts, place.value as usize, (by.value % 65536) as u16);
+    by.next
+}
+
+// The cases of a group, with so many entries of each table.
+fn lend(text: &[u8], at: usize, steps: &[u16], firsts: &[u16]) -> usize {
+    let s = testkit::number(text, at);
+    let f = testkit::number(text, s.next);
+    let count = testkit::number(text, f.next);
+    let n = least(s.value as usize, steps.len());
+    let m = least(f.value as usize, firsts.len());
+    cases(text, count.next, count.value, &steps[..n], &firsts[..m])
+}
+
+// One group from `at` on; the answer is the place behind it.
+fn group(text: &[u8], at: usize, steps: &mut [u16], firsts: &mut [u16]) -> usize {
+    let made = prepare(text, at, steps, firsts);
+    let spoilt = spoil(text, made, steps, firsts);
+    lend(text, spoilt, steps, firsts)
+}
+
+fn groups(text: &[u8], steps: &mut [u16], firsts: &mut [u16]) {
+    let count = testkit::number(text, 0);
+    let mut at = count.next;
+    let mut left = count.value;
+    while 0 < left {
+        at = group(text, at, steps, firsts);
+        left -= 1;
+    }
+}
+
+fn answer(text: &[u8]) {
+    let mut steps = [0u16; 65536];
+    let mut firsts = [0u16; 65536];
+    groups(text, &mut steps, &mut firsts);
+}
+
+fn main() {
+    let mut text = [0u8; 131072];
+    let n = io::read_full(STDIN_FILENO, &mut text);
+    answer(&text[..n]);
+}

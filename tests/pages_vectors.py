@@ -1,0 +1,309 @@
+#!/usr/bin/env python3
+"""Writes the vectors of the program pages_test: crates/pages_test/stdin, and the stdout that it is held to.
+
+The lists are found by brute force: every combination of positions, with the remainder of its polynomial by long division
+on Python's integers (above 64 bits the remainders of the single powers are added up, since there are millions of sets).
+Pages, refusals and periods follow document 01's text. Nothing here is taken from the library. Run it from anywhere:
+
+    python3 tests/pages_vectors.py
+"""
+from functools import lru_cache
+from itertools import combinations, product
+from pathlib import Path
+
+TARGET = Path(__file__).resolve().parent.parent / "crates" / "pages_test"
+
+FIVE, CCITT = 53, 0x11021
+START, ENDED = "start", "ended"
+LONG = 10**6  # more calls than any list here has records
+
+
+def divide(value, generator):
+    """The remainder of a binary polynomial."""
+    while value.bit_length() >= generator.bit_length():
+        value ^= generator << (value.bit_length() - generator.bit_length())
+    return value
+
+
+@lru_cache(maxsize=1)
+def lists(generator, bits, limit):
+    """Every pattern by its syndrome, in the order: fewer positions first, then the lower smallest position, and so on."""
+    powers = [divide(1 << p, generator) for p in range(bits)]
+    found = {}
+    for count in range(limit + 1):
+        for positions in combinations(range(bits), count):
+            if bits <= 64:
+                syndrome = divide(sum(1 << p for p in positions), generator)
+            else:
+                syndrome = 0
+                for p in positions:
+                    syndrome ^= powers[p]
+            found.setdefault(syndrome, []).append(positions)
+    return found
+
+
+def follows(mark, pattern):
+    if mark in (START, ENDED):
+        return mark == START
+    return (len(mark), mark) < (len(pattern), pattern)
+
+
+def record(pattern):
+    return bytes([len(pattern)]) + b"".join(p.to_bytes(2, "big") for p in pattern)
+
+
+@lru_cache(maxsize=None)
+def filled(length):
+    """Bytes from the linear congruential generator of document 02, with the seed 1."""
+    seed, out = 1, []
+    for _ in range(length):
+        seed = (1664525 * seed + 1013904223) % 2**32
+        out.append(seed >> 24)
+    return bytes(out)
+
+
+def fnv(h, data):
+    """The 32-bit FNV-1a hash, carried on."""
+    for byte in data:
+        h = (h ^ byte) * 16777619 % 2**32
+    return h
+
+
+def unfit_generator(generator):
+    return generator % 2 == 0 or not 3 <= generator.bit_length() - 1 <= 16
+
+
+def period(generator):
+    return next(c for c in range(1, 2**16) if divide(1 << c, generator) == 1) if generator < 2**12 else long_period(generator)
+
+
+def long_period(generator):
+    power, c = 2, 1
+    while power != 1:
+        power, c = divide(power << 1, generator), c + 1
+    return c
+
+
+class Group:
+    """Tables of a generator, with a change, of which so many entries are lent."""
+
+    def __init__(self, generator, size=None, change=(0, 0, 0), lent=None):
+        self.generator, self.change = generator, change
+        self.right = 2 ** (generator.bit_length() - 1)
+        self.size = self.right if size is None else size
+        self.lent = (self.size, self.size) if lent is None else lent
+        self.cases = []
+        groups.append(self)
+
+    def head(self):
+        high, low = divmod(self.generator, 2**32)
+        return " ".join(map(str, (high, low, self.size, *self.change, *self.lent, len(self.cases))))
+
+    def first_line(self):
+        if unfit_generator(self.generator):
+            return "refused 1"
+        return "refused 5" if self.size != self.right else str(period(self.generator))
+
+    def refusal(self, generator, bits, limit, syndrome, mark, room):
+        """The first condition that applies, or 0."""
+        degree = generator.bit_length() - 1
+        if unfit_generator(generator):
+            return 1
+        if not degree < bits <= 4096:
+            return 2
+        if not 1 <= limit <= 4:
+            return 3
+        if syndrome >= 2**degree:
+            return 4
+        if self.lent != (2**degree, 2**degree):
+            return 5
+        if generator != self.generator or (self.change[2] and self.change[1] < self.lent[self.change[0]]):
+            return 6
+        if isinstance(mark, tuple):
+            if len(mark) > limit or any(p >= bits for p in mark) or any(a >= b for a, b in zip(mark, mark[1:])):
+                return 7
+        return 8 if room < 9 else 0
+
+    def add(self, bits, limit, syndrome, span=1, mark=START, room=64, sizes=1, calls=LONG, generator=None):
+        """A case: the line that the program reads, and the one it prints."""
+        generator = self.generator if generator is None else generator
+        kind = {START: 5, ENDED: 6}.get(mark, len(mark))
+        positions = [0] * 4 if isinstance(mark, str) else [*mark, 0, 0, 0, 0][:4]
+        given = [x for y in (generator, bits, limit, syndrome) for x in divmod(y, 2**32)]
+        line = " ".join(map(str, [*given, span, kind, *positions, room, sizes, calls]))
+        used = beyond = 2166136261
+        records = made = refusals = ended = 0
+        for s in range(syndrome, syndrome + span):
+            reached = mark
+            for i in range(calls):
+                size = room + i % sizes
+                made += 1
+                number = self.refusal(generator, bits, limit, s, reached, size)
+                page = b""
+                if number:
+                    refusals += number
+                else:
+                    rest = [p for p in lists(generator, bits, limit).get(s, []) if follows(reached, p)]
+                    fit = 0
+                    while fit < len(rest) and len(page) + len(record(rest[fit])) <= size:
+                        page += record(rest[fit])
+                        fit += 1
+                    records += fit
+                    reached = ENDED if fit == len(rest) else rest[fit - 1]
+                used = fnv(used, page)
+                beyond = fnv(beyond, filled(size)[len(page) :])
+                if reached == ENDED:
+                    ended += 1
+                    break
+        shown = reached if isinstance(reached, str) else "after " + "".join(f"{p} " for p in reached)
+        self.cases.append((line, f"{used} {beyond} {records} {made} {refusals} {ended} {shown}"))
+
+
+def listed(generator, bits, limit, syndrome, after=START):
+    return [p for p in lists(generator, bits, limit).get(syndrome, []) if follows(after, p)]
+
+
+groups = []
+
+
+def worked_by_hand():
+    """Document 01's facts about lists, held to its own text first."""
+    assert listed(11, 5, 1, 6) == [(4,)]
+    assert listed(FIVE, 15, 2, 1) == [(0,)] and listed(FIVE, 16, 2, 1) == [(0,), (15,)]
+    assert listed(FIVE, 7, 2, 3) == [(0, 1)] and listed(FIVE, 8, 2, 3) == [(0, 1), (3, 7)]
+    assert listed(FIVE, 15, 2, 0) == [()] and listed(FIVE, 16, 2, 0) == [(), (0, 15)]
+    assert listed(FIVE, 9, 2, 30) == [(0, 6), (3, 8), (5, 7)]
+    assert listed(FIVE, 9, 2, 30, (1, 2)) == [(3, 8), (5, 7)]
+    received = divide(0x7FFF05, FIVE)
+    assert listed(FIVE, 24, 1, received) == [(8,), (23,)]
+    Group(11).add(5, 1, 6)
+    five = Group(FIVE)
+    for bits, syndrome in ((15, 1), (16, 1), (7, 3), (8, 3), (15, 0), (16, 0), (9, 30)):
+        five.add(bits, 2, syndrome)
+    five.add(9, 2, 30, mark=(1, 2))
+    five.add(24, 1, received)
+
+
+def every_small_list():
+    """All syndromes: five over every length up to 20, and generators of degree 3 to 8 with an odd and an even number of ones."""
+    five = Group(FIVE)
+    for bits in range(6, 21):
+        for limit in (1, 2, 3, 4):
+            five.add(bits, limit, 0, span=32)
+    for generator in (9, 11, 13, 15, 19, 23, 31, 37, 47, 51, 67, 73, 99, 131, 137, 189, 285, 263, 257, 297):
+        degree = generator.bit_length() - 1
+        group = Group(generator)
+        for bits, limit in ((degree + 1, 4), (degree + 2, 3), (13, 4), (16, 4), (19, 3), (27, 2), (33, 1)):
+            group.add(bits, limit, 0, span=2**degree)
+
+
+def joined_pages():
+    """Whole lists in pages of odd sizes, also of changing ones with refused calls among them, and parts of lists."""
+    five = Group(FIVE)
+    for room in (9, 10, 11, 12, 13, 14, 17, 18, 19, 26, 27, 45, 64, 100, 255, 4096):
+        five.add(17, 4, 0, span=32, room=room)
+        five.add(20, 4, 30, room=room)
+    for room, sizes in ((8, 2), (7, 4), (0, 12), (9, 7), (5, 31)):
+        five.add(18, 4, 7, span=3, room=room, sizes=sizes)
+        five.add(18, 3, 0, room=room, sizes=sizes)
+    for calls in range(0, 30):
+        five.add(14, 3, 0, room=9, calls=calls)
+        five.add(14, 3, 9, room=21, sizes=3, calls=calls)
+
+
+def every_mark():
+    """A page after each pattern, listed or not, at both ends too."""
+    five = Group(FIVE)
+    for bits, limit, syndrome, room in ((9, 2, 30, 64), (8, 4, 0, 19), (7, 3, 21, 9)):
+        five.add(bits, limit, syndrome, mark=ENDED, room=room)
+        for count in range(limit + 1):
+            for mark in combinations(range(bits), count):
+                five.add(bits, limit, syndrome, mark=mark, room=room, calls=1)
+    for mark in ((15, 16, 17, 19), (16, 17, 18, 19), (19,), (18, 19), ()):
+        five.add(20, 4, 0, span=32, mark=mark)
+    for mark in (START, ENDED, (), (0,), (7,), (15,), (14, 15)):
+        five.add(16, 2, 1, mark=mark, room=9)
+
+
+def long_packets():
+    """The longest packets, and lists of which each last position is looked up in large tables."""
+    five = Group(FIVE)
+    five.add(4096, 1, 0, span=32, room=1000)
+    five.add(4096, 1, 26, room=9, calls=40)
+    five.add(4096, 1, 26, mark=(4094,), room=9)
+    five.add(4096, 1, 26, mark=(4095,), room=9)
+    ccitt = Group(CCITT)
+    for syndrome in (0, 1, 3, 0x1021, 0x1189, 0x8000, 0xFFFF, 0x8001, 0x3331):
+        ccitt.add(4096, 2, syndrome, room=4096)
+        ccitt.add(4096, 2, syndrome, room=101, sizes=3)
+    ccitt.add(4096, 2, 0, mark=(4094, 4095))
+    ccitt.add(4096, 2, 0x1189, mark=(4095,), room=333)
+    ccitt.add(4096, 2, 0, mark=(0, 4096), calls=1)
+    ccitt.add(131, 3, 0, span=40, room=700)
+    ccitt.add(131, 3, 0xFFC0, span=64, room=70)
+    ccitt.add(41, 4, 0x1021, span=50, room=47)
+
+
+def refused_in_order():
+    """Every choice of the eight conditions: the lowest of those that apply is the answer."""
+    for lent, change in product(((32, 32), (32, 31)), ((0, 0, 0), (0, 1, 26))):
+        group = Group(FIVE, change=change, lent=lent)
+        for one, two, three, four, seven, eight in product((False, True), repeat=6):
+            group.add(
+                5 if two else 8,
+                5 if three else 2,
+                32 if four else 3,
+                mark=(3, 3) if seven else (3,),
+                room=8 if eight else 9,
+                calls=1,
+                generator=52 if one else FIVE,
+            )
+
+
+def refused_at_the_edges():
+    five = Group(FIVE)
+    for generator in (0, 1, 2, 3, 5, 7, 8, 52, 131072, 131073, 131123, 2**32 + FIVE, 2**63 + FIVE, 2**64 - 1):
+        five.add(8, 2, 3, generator=generator, calls=1)
+    for generator in (37, 61, 47, 9, 17, 67, 65537, 131071):  # fit, but these are not their tables
+        five.add(20, 2, 3, generator=generator, calls=1)
+    for bits in (0, 1, 4, 5, 6, 4095, 4096, 4097, 65536 + 8, 2**32 + 8, 2**63 + 8, 2**64 - 1):
+        five.add(bits, 1, 3, calls=1)
+    for limit in (0, 1, 2, 3, 4, 5, 256 + 1, 65536 + 2, 2**32 + 1, 2**63 + 1, 2**64 - 1):
+        five.add(8, limit, 3, calls=1)
+    for syndrome in (0, 31, 32, 63, 65536, 65539, 2**32 + 3, 2**63 + 3, 2**64 - 1):
+        five.add(8, 2, syndrome, calls=1)
+    for room in range(0, 12):
+        five.add(8, 4, 3, room=room, calls=1)
+        five.add(8, 1, 3, room=room, calls=1)
+    for mark in ((3, 3), (4, 3), (7,), (8,), (65535,), (0, 8), (6, 7), (0, 1, 2), (0, 65535), (0, 0, 0), (0, 1, 2, 3), (2, 1, 3)):
+        five.add(8, 2, 3, mark=mark, calls=1)
+        five.add(8, 4, 3, mark=mark, calls=1)
+    for mark in ((7, 6, 5, 4), (4, 5, 6, 6), (4, 5, 6, 8), (4, 5, 6, 7), (0, 5, 5, 7), (1, 1, 5, 7)):
+        five.add(8, 4, 3, mark=mark, calls=1)
+    for size, lent in ((32, (31, 32)), (32, (33, 32)), (32, (32, 33)), (32, (0, 0)), (32, (64, 64)), (31, (31, 31)), (64, (64, 64))):
+        Group(FIVE, size=size, lent=lent).add(8, 2, 3, calls=1)
+    for table, place, by in product((0, 1), (0, 1, 2, 3, 17, 31, 32), (1, 32768)):
+        group = Group(FIVE, change=(table, place, by))
+        group.add(8, 2, 3, calls=1)
+    Group(CCITT, change=(1, 65535, 2)).add(17, 2, 3, calls=1)
+    Group(CCITT, change=(0, 65535, 2)).add(17, 2, 3, calls=1)
+
+
+worked_by_hand()
+every_small_list()
+joined_pages()
+every_mark()
+long_packets()
+refused_in_order()
+refused_at_the_edges()
+
+given = [str(len(groups))]
+expected = []
+for group in groups:
+    given += [group.head(), *(line for line, _ in group.cases)]
+    expected += [group.first_line(), *(line for _, line in group.cases)]
+text = "\n".join(given) + "\n"
+assert len(text) < 65536, len(text)
+TARGET.joinpath("stdin").write_text(text)
+TARGET.joinpath("stdout").write_text("\n".join(expected) + "\n")
+print(f"{len(groups)} groups, {sum(len(group.cases) for group in groups)} cases, {len(text)} bytes of input")

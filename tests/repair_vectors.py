@@ -1,0 +1,343 @@
+#!/usr/bin/env python3
+"""Writes the vectors of the program repair_test: crates/repair_test/stdin, and the stdout that it is held to.
+
+The verdicts are found by brute force, by the rules of document 01: every set of at most N positions is flipped whose
+remainder, by long division on Python's integers, is the packet's, and the range is summed by RFC 1071's definition. Only for
+packets of 64 and 512 bytes is the last position looked up by its power's remainder instead of tried. Nothing here is taken from
+the library. Run it from anywhere:
+
+    python3 tests/repair_vectors.py
+"""
+from functools import cache
+from itertools import combinations, product
+from pathlib import Path
+from random import Random
+
+TARGET = Path(__file__).resolve().parent.parent / "crates" / "repair_test"
+FIVE, CCITT, THREE, EIGHT = 53, 0x11021, 11, 0x107  # degrees 5, 16, 3 and 8
+SMALL = 48  # bits of the longest packet whose every combination is tried
+
+random = Random(1071)
+
+
+def degree_of(generator):
+    return generator.bit_length() - 1
+
+
+def divide(value, generator):
+    """The remainder of a binary polynomial: the generator is taken away below each one that is too high."""
+    for place in range(value.bit_length() - 1, degree_of(generator) - 1, -1):
+        if value >> place & 1:
+            value ^= generator << (place - degree_of(generator))
+    return value
+
+
+def checksum(data):
+    """RFC 1071: big-endian words, a zero byte at an odd end, the carries folded back."""
+    data += bytes(len(data) % 2)
+    total = sum(data[i] * 256 + data[i + 1] for i in range(0, len(data), 2))
+    while total > 0xFFFF:
+        total = total % 0x10000 + total // 0x10000
+    return total
+
+
+def flip(packet, positions):
+    value = int.from_bytes(packet, "big")
+    for p in positions:
+        value ^= 1 << p
+    return value.to_bytes(len(packet), "big")
+
+
+@cache
+def powers(generator, bits):
+    return [divide(1 << p, generator) for p in range(bits)]
+
+
+@cache
+def every_pattern(generator, bits, limit):
+    """Every set of at most so many positions, by its remainder."""
+    power = powers(generator, bits)
+    lists = {}
+    for count in range(limit + 1):
+        for positions in combinations(range(bits), count):
+            left = 0
+            for p in positions:
+                left ^= power[p]
+            lists.setdefault(left, []).append(positions)
+    return lists
+
+
+def looked_up(generator, bits, limit, syndrome):
+    """The same patterns of one remainder, each last position from a table of the powers."""
+    power = powers(generator, bits)
+    places = {}
+    for p, left in enumerate(power):
+        places.setdefault(left, []).append(p)
+    found = [()] if syndrome == 0 else []
+    for count in range(limit):
+        for positions in combinations(range(bits), count):
+            left = syndrome
+            for p in positions:
+                left ^= power[p]
+            found += [(*positions, q) for q in places.get(left, []) if not positions or positions[-1] < q]
+    return found
+
+
+assert sorted(looked_up(FIVE, 24, 3, 9)) == sorted(every_pattern(FIVE, 24, 3)[9])
+assert sorted(looked_up(CCITT, 40, 3, 0x1021)) == sorted(every_pattern(CCITT, 40, 3)[0x1021])
+
+
+def fnv(data):
+    """The 32-bit FNV-1a hash."""
+    h = 2166136261
+    for byte in data:
+        h = (h ^ byte) * 16777619 % 2**32
+    return h
+
+
+def filled(length, seed=1):
+    """Bytes from the linear congruential generator of document 02."""
+    out = []
+    for _ in range(length):
+        seed = (1664525 * seed + 1013904223) % 2**32
+        out.append(seed >> 24)
+    return bytes(out)
+
+
+def verdict(generator, a, e, limit, packet):
+    """Document 01's verdict: its kind, and the patterns that pass."""
+    bits = 8 * len(packet)
+    syndrome = divide(int.from_bytes(packet, "big"), generator)
+    if syndrome == 0 and checksum(packet[a:e]) == 0xFFFF:
+        return "intact", []
+    small = bits <= SMALL
+    listed = every_pattern(generator, bits, limit).get(syndrome, []) if small else looked_up(generator, bits, limit, syndrome)
+    passing = [p for p in listed if checksum(flip(packet, p)[a:e]) == 0xFFFF]
+    return ("none", "repaired", "several")[min(len(passing), 2)], passing
+
+
+class Group:
+    """Cases that share tables: built for a generator with `size` entries, one entry changed, the first of each lent."""
+
+    def __init__(self, generator, size=None, change=(0, 0, 0), lent=None):
+        self.generator = generator
+        self.size = 2 ** degree_of(generator) if size is None else size
+        self.change = change
+        self.lent = lent or (self.size, self.size)
+        self.given = []
+        self.expected = []
+        groups.append(self)
+
+    def head(self):
+        return " ".join(map(str, [0, self.generator, self.size, *self.change, *self.lent, len(self.given)]))
+
+    def refusal(self, generator, a, e, limit, packet, room):
+        """The first condition of document 01's table that turns down a repair, or 0."""
+        degree = degree_of(generator)
+        bits = 8 * len(packet)
+        if generator % 2 == 0 or not 3 <= degree <= 16:
+            return 1
+        if not degree < bits <= 4096:
+            return 2
+        if not 1 <= limit <= 4:
+            return 3
+        if self.lent != (2**degree, 2**degree):
+            return 5
+        if generator != self.generator or (self.change[2] and self.change[1] < self.lent[self.change[0]]):
+            return 6
+        if room != len(packet):
+            return 8
+        return 0 if a < e and 8 * e <= bits - degree else 9
+
+    def line(self, generator, a, e, limit, packet, room):
+        """What the program prints for one call."""
+        before = filled(room)
+        number = self.refusal(generator, a, e, limit, packet, room)
+        if number:
+            return f"refused {number} {fnv(before)}"
+        kind, passing = verdict(generator, a, e, limit, packet)
+        kinds[kind] = kinds.get(kind, 0) + 1
+        copy = flip(packet, passing[0]) if kind == "repaired" else before
+        published = {"intact": packet, "repaired": copy}.get(kind, b"")
+        shown = {"repaired": "".join(f"{p} " for p in (passing or [()])[0]), "several": f"{len(passing)} 0 65535 "}
+        return f"{kind} {shown.get(kind, '')}{fnv(copy)} {len(published)} {fnv(published)}"
+
+    def add(self, a, e, limit, packet, first=0, count=0, room=None, generator=None, seed=None):
+        """A call, and one with each of `count` positions from `first` on flipped alone."""
+        generator = self.generator if generator is None else generator
+        room = len(packet) if room is None else room
+        given = [x for y in (generator, a, e, limit) for x in divmod(y, 2**32)]
+        data = [1, *packet] if seed is None else [0, seed]
+        self.given.append(" ".join(map(str, [*given, len(packet), *data, room, first, count])))
+        for positions in ((), *((p,) for p in range(first, first + count))):
+            self.expected.append(self.line(generator, a, e, limit, flip(packet, positions), room))
+
+
+def sent(generator, length, a, e):
+    """A packet that passes both checks: random bytes, stamped at a word of the range, then sealed."""
+    packet = bytearray(random.randbytes(length))
+    field = a + 2 * random.randrange((e - a) // 2)
+    packet[field : field + 2] = bytes(2)
+    packet[field : field + 2] = (0xFFFF - checksum(bytes(packet[a:e]))).to_bytes(2, "big")
+    value = int.from_bytes(packet, "big")
+    packet = (value ^ divide(value, generator)).to_bytes(length, "big")
+    assert divide(int.from_bytes(packet, "big"), generator) == 0 and checksum(packet[a:e]) == 0xFFFF
+    return packet
+
+
+def last_end(generator, length):
+    """The largest e that is accepted."""
+    return (8 * length - degree_of(generator)) // 8
+
+
+groups = []
+kinds = {}
+
+
+def worked_by_hand():
+    """Document 01's rows about repair, held to its own text first."""
+    assert verdict(FIVE, 0, 2, 1, bytes.fromhex("FFFF05"))[0] == "intact"
+    assert verdict(FIVE, 0, 2, 1, bytes.fromhex("7FFF05")) == ("repaired", [(23,)])
+    assert verdict(FIVE, 0, 2, 1, bytes.fromhex("FFFF06"))[0] == "none"
+    kind, passing = verdict(FIVE, 0, 2, 2, bytes.fromhex("FFFF06"))
+    assert kind == "several" and len(passing) == 2
+    five = Group(FIVE)
+    for text, limits in (("FFFF05", (1, 2, 3, 4)), ("7FFF05", (1,)), ("FFFF06", (1, 2))):
+        for limit in limits:
+            five.add(0, 2, limit, bytes.fromhex(text))
+
+
+def sent_and_damaged():
+    """Sent packets with 0 to N flips: a first one, or a first two, and another at every position."""
+    for generator, lengths in ((FIVE, (3, 4, 5, 6)), (CCITT, (4, 5, 6)), (THREE, (3, 4)), (EIGHT, (4, 5))):
+        group = Group(generator)
+        for length in lengths:
+            bits = 8 * length
+            end = last_end(generator, length)
+            packet = sent(generator, length, 0, end)
+            for limit in (1, 2, 3):
+                group.add(0, end, limit, packet, 0, bits)
+            every = length <= 4 and generator in (FIVE, CCITT)
+            for p in range(bits - 1) if every else random.sample(range(bits), 5):
+                group.add(0, end, 2, flip(packet, (p,)), p + 1 if every else 0, bits - p - 1 if every else bits)
+            group.add(0, end, 3, flip(packet, random.sample(range(bits), 2)), 0, bits)
+            group.add(0, end, 1, flip(packet, random.sample(range(bits), 1)), 0, bits)
+
+
+def ranges():
+    """Every accepted range of at least two bytes, odd starts and odd ends too; those of one byte never pass."""
+    for generator, length in ((FIVE, 6), (FIVE, 5), (CCITT, 6), (THREE, 5), (EIGHT, 6)):
+        group = Group(generator)
+        for a, e in combinations(range(last_end(generator, length) + 1), 2):
+            if e - a == 1:
+                group.add(a, e, 2, random.randbytes(length))
+                continue
+            packet = sent(generator, length, a, e)
+            for limit in (1, 2, 3):
+                for flips in range(limit + 2):
+                    group.add(a, e, limit, flip(packet, random.sample(range(8 * length), flips)))
+
+
+def by_chance():
+    """Random packets and ranges, and packets of zeros and ones, whose sums are the two zeros of RFC 1071."""
+    for generator in (FIVE, CCITT, THREE, EIGHT):
+        group = Group(generator)
+        for _ in range(30):
+            length = random.randint(4, 6)
+            end = last_end(generator, length)
+            a = random.randrange(end)
+            seed = random.randrange(2**32)
+            group.add(a, random.randint(a + 1, end), random.randint(1, 3), filled(length, seed), seed=seed)
+        for length, byte, limit in product((4, 5), (0, 255), (1, 2, 3, 4)):
+            group.add(0, 2, limit, bytes([byte]) * length)
+
+
+def fours():
+    """Patterns of four positions."""
+    for generator in (FIVE, CCITT):
+        group = Group(generator)
+        for length in (4, 5):
+            end = last_end(generator, length)
+            packet = sent(generator, length, 0, end)
+            for flips in (0, 1, 2, 3, 4, 4, 4, 5):
+                group.add(0, end, 4, flip(packet, random.sample(range(8 * length), flips)))
+
+
+def long_packets():
+    """64 and 512 bytes with few errors, at both ends too."""
+    ccitt = Group(CCITT)
+    for length, limits in ((64, (1, 2, 3)), (512, (1, 2))):
+        bits = 8 * length
+        whole, odd, tail = (0, length - 2), (1, length // 2 + 1), (length - 6, length - 3)
+        for limit, (a, e) in product(limits, (whole, odd, tail) if length == 64 else (whole, odd)):
+            packet = sent(CCITT, length, a, e)
+            damaged = flip(packet, random.sample(range(bits), limit - 1))
+            ccitt.add(a, e, limit, damaged, random.randrange(bits - 3), 3)
+            ccitt.add(a, e, limit, damaged, *random.choice(((0, 2), (bits - 2, 2))))
+    five = Group(FIVE)
+    for length in (64, 512):
+        packet = sent(FIVE, length, 0, length - 1)
+        five.add(0, length - 1, 1, packet, random.randrange(8 * length - 3), 3)
+        five.add(0, length - 1, 1, flip(packet, (0,)), 8 * length - 3, 3)
+
+
+def refused_in_order():
+    """Every choice of the seven conditions: the lowest of those that apply is the answer."""
+    packet = bytes.fromhex("7FFF05")
+    for lent, change in product(((32, 32), (31, 32)), ((0, 0, 0), (0, 1, 26))):
+        group = Group(FIVE, change=change, lent=lent)
+        for one, two, three, eight, nine in product((False, True), repeat=5):
+            data = b"" if two else packet
+            group.add(
+                0,
+                3 if nine else 2,
+                5 if three else 1,
+                data,
+                room=len(data) + 1 if eight else len(data),
+                generator=52 if one else FIVE,
+            )
+
+
+def refused_at_the_edges():
+    packet = bytes.fromhex("7FFF05")
+    five = Group(FIVE)
+    for generator in (0, 1, 2, 3, 5, 7, 8, 52, 131072, 131073, 2**32 + FIVE, 2**63 + FIVE, 2**64 - 1):
+        five.add(0, 2, 1, packet, generator=generator)
+    for generator in (37, 61, 47, 9, 67, 65537, 131071):  # fit, but these are not their tables
+        five.add(0, 2, 1, packet, generator=generator)
+    for length in (0, 1, 2, 3, 511, 512, 513, 600):
+        five.add(0, 1, 1, filled(length, length), seed=length)
+    for limit in (0, 1, 2, 3, 4, 5, 256 + 1, 65536 + 2, 2**32 + 1, 2**63 + 1, 2**64 - 1):
+        five.add(0, 2, limit, packet)
+    for room in (0, 1, 2, 3, 4, 5, 256 + 3, 1024):
+        five.add(0, 2, 1, packet, room=room)
+    edges = (0, 1, 2, 3, 4, 2**32, 2**32 + 2, 2**61, 2**61 + 2, 2**63 + 2, 2**64 - 1)
+    for a, e in product(edges, edges):
+        five.add(a, e, 1, packet)
+    ccitt = Group(CCITT)
+    for a, e in product(range(5), range(6)):
+        ccitt.add(a, e, 1, bytes.fromhex("FFFF1D0F"))
+    ccitt.add(0, 1, 1, bytes.fromhex("FFFF"))
+    for size, lent in ((32, (32, 31)), (32, (33, 32)), (32, (32, 33)), (32, (0, 0)), (32, (64, 64)), (31, (31, 31)), (64, (64, 64))):
+        Group(FIVE, size=size, lent=lent).add(0, 2, 1, packet)
+    for table, place, by in product((0, 1), (0, 1, 17, 31, 32), (1, 32768)):
+        Group(FIVE, change=(table, place, by)).add(0, 2, 1, packet)
+    Group(CCITT, change=(0, 65535, 2)).add(0, 2, 1, bytes.fromhex("FFFF1D0F"))
+    Group(CCITT, change=(1, 65535, 2)).add(0, 2, 1, bytes.fromhex("FFFF1D0F"))
+
+
+worked_by_hand()
+sent_and_damaged()
+ranges()
+by_chance()
+fours()
+long_packets()
+refused_in_order()
+refused_at_the_edges()
+
+text = "\n".join([str(len(groups)), *(line for group in groups for line in (group.head(), *group.given))]) + "\n"
+lines = [line for group in groups for line in group.expected]
+assert len(text) < 131072, len(text)  # the room that the program has for it
+TARGET.joinpath("stdin").write_text(text)
+TARGET.joinpath("stdout").write_text("\n".join(lines) + "\n")
+print(f"{len(groups)} groups, {sum(len(group.given) for group in groups)} cases, {len(lines)} calls, {kinds}, {len(text)} bytes of input")
