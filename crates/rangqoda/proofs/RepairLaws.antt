@@ -1,6 +1,6 @@
 -- A repair call is accepted only with eighteen bytes for its verdict; and the pattern that an answer names matters only
 -- where several pass, where it can be read from the verdict's bytes.
-use mathlib.Core.Path.{_≡_, refl, sym, ap, _∙_}
+use mathlib.Core.Path.{_≡_, sym, ap, _∙_}
 use mathlib.Core.Bool.{true}
 use mathlib.Core.List.{List, [], _∷_, _++_, append-nil}
 use Prim.Native.Nat.{ℕ, _≤_}
