@@ -1,6 +1,6 @@
 -- What an answer comes to for a C caller, once it is known whether the call was refused; and what a returned 0 tells.
-use mathlib.Core.Path.{_≡_, refl, sym, ap, _∙_}
-use mathlib.Core.List.{List, [], _∷_}
+use mathlib.Core.Path.{_≡_, refl, ap, _∙_}
+use mathlib.Core.List.{List}
 use Prim.Native.Nat.{ℕ, _≤_}
 use native.Mathlib.Omega.{arith}
 use Rattle.base.specs.Outcome.{Outcome, refused, accepted, Condition, judge}

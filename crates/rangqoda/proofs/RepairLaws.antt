@@ -1,26 +1,31 @@
 -- A repair call is accepted only with eighteen bytes for its verdict; and the pattern that an answer names matters only
 -- where several pass, where it can be read from the verdict's bytes.
-use mathlib.Core.Path.{_≡_, refl, sym, ap, _∙_}
-use mathlib.Core.List.{List, [], _∷_}
+use mathlib.Core.Path.{_≡_, sym, ap, _∙_}
+use mathlib.Core.Bool.{true}
+use mathlib.Core.List.{List, [], _∷_, _++_, append-nil}
 use Prim.Native.Nat.{ℕ, _≤_}
 use native.Mathlib.Omega.{arith}
-use borrow.Author.Tests.{ne-eqb}
+use borrow.Author.Tests.{eq-eqb, ne-eqb}
 use lib.Dec.{eqb}
-use lib.ListN.{length, take}
-use Rattle.base.specs.Outcome.{Outcome, refused, accepted}
+use lib.ListN.{length, take, drop, take-append-drop}
+use lib.Seq.{take-length, drop-length}
+use Rattle.base.specs.Outcome.{Outcome, refused, accepted, when, judge}
 use Rattle.base.proofs.Cases.{by-test, by-equal}
 use Rattle.base.proofs.JudgeLaws.{judge-clear, judge-refused, judge-accepted, judge-value, first-of, rest-of}
 use Rattle.poly.specs.Polynomial.{degree}
-use Rattle.packet.specs.Packet.{bits}
+use Rattle.poly.specs.Generators.{unfit}
+use Rattle.packet.specs.Packet.{bits, unfitLength}
 use Rattle.packet.proofs.PacketLaws.{fit-length}
+use Rattle.tables.specs.Tables.{unfitTables, wrongTables}
 use Rattle.patterns.specs.Patterns.{positions}
+use Rattle.pages.specs.Conditions.{unfitLimit}
 use Rattle.repair.specs.declared.Verdict.{Verdict}
 use Rattle.repair.specs.declared.Verdict.the-variants.{Intact, Repaired, Several, None}
-use Rattle.repair.specs.Verdicts.{Said, intact, repaired, several, nothing, said, settled, verdict, passesBoth, candidates}
-use Rattle.repair.specs.Calls.{Repair, repairConditions, repairCall, namedBy, NamedWell}
-use Rattle.repair.proofs.ConditionLaws.{fit-copy}
+use Rattle.repair.specs.Verdicts.{Said, intact, repaired, nothing, said, settled, verdict, passesBoth, candidates}
+use Rattle.repair.specs.Calls.{Repair, repairConditions, repairCall, repairOutput, namedBy, NamedWell}
+use Rattle.repair.proofs.ConditionLaws.{copy-unfit, fit-copy}
 use Rattle.rangqoda.specs.Verdicts.{verdictBytes, patternIn}
-use Rattle.rangqoda.specs.Repairs.{room, NamesWell}
+use Rattle.rangqoda.specs.Repairs.{room, outputAfter, NamesWell}
 use Rattle.rangqoda.proofs.VerdictLaws.{pattern-back}
 
 pub room-within : (verdict output : List ℕ) → room verdict output ≤ length output
@@ -46,6 +51,37 @@ accepted-eighteen r n verdict output k e =
     (λ h.
     let none : length (r .output) ≡ 0 = ap length k ∙ rw (ne-eqb (length verdict) 18 h) in
     absurd (omega (arith, accepted-output r n e)))
+
+-- without eighteen bytes for its verdict a call is turned down by 8, where none of 1 to 6 applies
+pub no-output-refused : (r : Repair) (n : List ℕ) (v : Said) → length (r .output) ≡ 0 →
+    repairCall r n
+    ≡ judge
+    (when 1 (unfit (r .generator))
+    ∷ when 2 (unfitLength (degree (r .generator)) (bits (r .packet)))
+    ∷ when 3 (unfitLimit (r .limit))
+    ∷ when 5 (unfitTables (degree (r .generator)) (length (r .steps)) (length (r .firsts)))
+    ∷ when 6 (wrongTables (degree (r .generator)) (r .generator) (r .steps) (r .firsts))
+    ∷ when 8 true
+    ∷ []) refused (accepted v)
+no-output-refused r n v e =
+    by-test (unfitLength (degree (r .generator)) (bits (r .packet))) (λ k. rw k)
+    (λ k.
+    let long = fit-length (degree (r .generator)) (bits (r .packet)) k in
+    rw (k, ← copy-unfit (length (r .output)) (length (r .packet)) (λ s. omega arith)))
+
+-- a call that is turned down leaves the whole output; and with eighteen bytes the output is what the call itself leaves
+pub output-refused : (r : Repair) (n output verdict : List ℕ) {k : ℕ} → r .output ≡ take (room verdict output) output → refused k ≡ repairCall r n
+    → outputAfter r output verdict ≡ output
+output-refused r n output verdict {k} t e =
+    ap (λ (l : List ℕ). l ++ drop (room verdict output) output) (judge-refused (repairConditions r) (answerOf r n) k (λ _. r .output) _ (sym e) ∙ t)
+    ∙ take-append-drop (room verdict output) output
+
+pub output-whole : (r : Repair) (output verdict : List ℕ) → length verdict ≡ 18 → outputAfter r output verdict ≡ repairOutput r
+output-whole r output verdict h =
+    rw (eq-eqb (length verdict) 18 h) (ap (λ (l : List ℕ). repairOutput r ++ l) (drop-length output) ∙ append-nil (repairOutput r))
+
+pub room-whole : (output verdict : List ℕ) → length verdict ≡ 18 → take (room verdict output) output ≡ output
+room-whole output verdict h = rw (eq-eqb (length verdict) 18 h) (take-length output)
 
 -- ---- which pattern is named ----
 

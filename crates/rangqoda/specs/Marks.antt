@@ -1,6 +1,5 @@
 -- Marks as bytes, nine of them: FEh for Start, FFh for Ended, else the record of the pattern, with zeros behind it.
 use Prim.Native.Nat.{ℕ, zero, suc, _+_, _-_, _*_}
-use mathlib.Core.Bool.{Bool}
 use mathlib.Core.List.{List, [], _∷_, _++_}
 use lib.Dec.{eqb, leb}
 use lib.ListN.{length, getD, drop, replicate}

@@ -13,37 +13,49 @@ use tables::TablesAnswer;
 ghost use mathlib.Core.Path.{_≡_};
 ghost use mathlib.Core.List.{[], _∷_};
 ghost use Prim.Native.Nat.{_+_, _*_, _<_, _≤_};
+ghost use lib.Dec.{eqb};
 ghost use lib.ListN.{length, getD, drop, replicate};
+ghost use Rattle.base.specs.Outcome.{pick};
 ghost use Rattle.base.specs.Refusals.{number};
+ghost use Rattle.packet.specs.Packet.{bytes};
 ghost use Rattle.packet.specs.Calls.{remainderCall, sealCall, sealPacket};
 ghost use Rattle.checksum.specs.Calls.{sumCall, stampCall, stampPacket};
 ghost use Rattle.tables.specs.Calls.{tablesCall, stepsAfter, firstsAfter};
 ghost use Rattle.patterns.specs.Patterns.{positions, placeOf};
 ghost use Rattle.patterns.specs.Pages.{recordOf};
 ghost use Rattle.pages.specs.Calls.{pageCall, pageLeft};
-ghost use Rattle.rangqoda.specs.Codes.{code, changed};
-ghost use Rattle.rangqoda.specs.Marks.{
-  placesIn,
-  placeOfBytes,
-  malformed,
-  padded,
-  markBytes,
-};
-ghost use Rattle.packet.specs.Packet.{bytes};
 ghost use Rattle.repair.specs.Verdicts.{said};
-ghost use Rattle.rangqoda.specs.Verdicts.{laid, verdictBytes, patternIn, publishCode};
-ghost use Rattle.base.specs.Outcome.{pick};
-ghost use lib.Dec.{eqb};
 ghost use Rattle.repair.specs.Calls.{repairCall};
-ghost use Rattle.rangqoda.specs.Repairs.{handed, verdictAfter, outputAfter, NamesWell};
+ghost use Rattle.rangqoda.specs.Codes.{code, changed};
+ghost use Rattle.rangqoda.specs.Marks.{placesIn, placeOfBytes, malformed, padded, markBytes};
 ghost use Rattle.rangqoda.specs.Pages.{asked, markAfter, usedAfter, writtenAfter};
+ghost use Rattle.rangqoda.specs.Verdicts.{laid, verdictBytes, patternIn, publishCode};
+ghost use Rattle.rangqoda.specs.Repairs.{handed, verdictAfter, outputAfter, NamesWell};
 
-// A mark's bytes.
+// A mark's bytes: how many, and the first of them where it has no pattern.
 const MARK_BYTES: usize = 9;
 
 const START: u8 = 0xFE;
 
 const ENDED: u8 = 0xFF;
+
+// A verdict's bytes: how many, and the first of them.
+const VERDICT_BYTES: usize = 18;
+
+const INTACT: u8 = 0;
+
+const REPAIRED: u8 = 1;
+
+const SEVERAL: u8 = 2;
+
+const NONE: u8 = 3;
+
+// What to publish from.
+const RECEIVED: u32 = 0;
+
+const COPY: u32 = 1;
+
+const NOTHING: u32 = 2;
 
 // The number of the condition that turns a call down.
 fn code_of(r: Refusal) -> u32
@@ -265,17 +277,6 @@ pub extern "C" fn rangqoda_page(
     }
 }
 
-// A verdict's bytes, and the first of them.
-const VERDICT_BYTES: usize = 18;
-
-const INTACT: u8 = 0;
-
-const REPAIRED: u8 = 1;
-
-const SEVERAL: u8 = 2;
-
-const NONE: u8 = 3;
-
 // A number into a slice, high byte first.
 fn put_number(value: u64, out: &mut [u8])
     ensures { λ _. ⌜ now (out .exit) ≡ bytes (length (now (out .entry))) value ⌝ }
@@ -363,14 +364,14 @@ pub extern "C" fn rangqoda_publish(verdict: &[u8]) -> u32
     ensures { λ r. ⌜ r ≡ publishCode (now (verdict .entry)) ⌝ }
 {
     if verdict.len() != VERDICT_BYTES {
-        return 2;
+        return NOTHING;
     }
     let kind = verdict[0];
     if kind == INTACT {
-        return 0;
+        return RECEIVED;
     }
     if kind == REPAIRED {
-        return 1;
+        return COPY;
     }
-    2
+    NOTHING
 }

@@ -1,6 +1,6 @@
 -- `put_number` writes a number from its last byte on. The invariant: the bytes of what is left, followed by those that are
 -- written, are the bytes of the whole number. i falls.
-use mathlib.Core.Path.{_≡_, refl, sym, ap, _∙_}
+use mathlib.Core.Path.{_≡_, refl, ap, _∙_}
 use mathlib.Core.List.{List, _++_, append-nil}
 use Prim.Native.Nat.{ℕ, suc, _-_, _%_, _≤_}
 use native.Mathlib.Omega.{arith}
