@@ -41,9 +41,6 @@ pub told-fits : (l m : ℕ) (list ahead : List (List ℕ)) (r : Found) (pos : Li
 told-fits l m list ahead (At k) pos h e = (omega (arith, h .1), h .0 .ascends)
 told-fits l m list ahead Nothing pos h e = tt
 
-pub told-at : (l m : ℕ) (list ahead : List (List ℕ)) (pos : List ℕ) {r : Found} {k : ℕ} → r ≡ At k → Told l m list ahead r pos → Told l m list ahead (At k) pos
-told-at l m list ahead pos e h = rw e at h
-
 pub told-along : (l m : ℕ) (list : List (List ℕ)) (r : Found) (pos : List ℕ) {ahead beyond : List (List ℕ)} → ahead ≡ beyond → Told l m list ahead r pos → Told l m list beyond r pos
 told-along l m list r pos e h = subst (λ (t : List (List ℕ)). Told l m list t r pos) e h
 
