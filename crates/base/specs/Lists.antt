@@ -1,7 +1,6 @@
 -- Statements about lists: a member, a fact of every member, strictly ascending numbers.
 use mathlib.Core.Path.{_≡_}
 use mathlib.Core.List.{List, [], _∷_}
-use Prim.Native.Nat.{ℕ, _<_}
 
 pub data In {A : Type 0} (a : A) : List A → Type 0 where
   here : {x : A} {xs : List A} → a ≡ x → In a (x ∷ xs)

@@ -1,10 +1,8 @@
 -- Conditions 1 and 2 in the order of their tests: what the constructor's answer and the length say of them.
 use mathlib.Core.Path.{_≡_, sym, ap, subst, _∙_}
-use mathlib.Core.Bool.{true, false}
 use mathlib.Core.List.{List, [], _∷_}
-use Prim.Native.Nat.{ℕ, _+_, _*_, _<_, _≤_}
+use Prim.Native.Nat.{ℕ, _<_, _≤_}
 use native.Mathlib.Omega.{arith}
-use Rattle.base.specs.Lists.{All, each}
 use Rattle.base.specs.Outcome.{Outcome, refused, accepted, Condition, when, judge}
 use Rattle.base.specs.Refusals.{number}
 use Rattle.base.specs.declared.Refusal.{Refusal}

@@ -2,10 +2,10 @@
 -- of positions changes the remainder by the XOR of their powers of x.
 use mathlib.Core.Path.{_≡_, refl, sym, ap, ap₂, _∙_}
 use mathlib.Core.List.{List, [], _∷_, _++_}
-use Prim.Native.Nat.{ℕ, zero, suc, _+_, _-_, _*_, _/_, _%_, _^_, _<_, _≤_}
+use Prim.Native.Nat.{ℕ, zero, suc, _+_, _-_, _*_, _/_, _%_, _^_, _<_}
 use native.Mathlib.Omega.{arith}
-use native.Mathlib.Nat.{add-zero, zero-mul, zero-add, mul-assoc, mul-comm, add-mul, pow-suc, add-assoc}
-use lib.Bits.{bitXor, xor-block, xor-lt, xor-zero-r, xor-comm}
+use native.Mathlib.Nat.{add-zero, zero-add, mul-assoc, mul-comm, add-mul, pow-suc}
+use lib.Bits.{bitXor, xor-block, xor-lt, xor-zero-r}
 use lib.ListN.{length, getD, take, drop, set, length-set, length-drop}
 use lib.Pow.{pow-add, pow-pos, pow-lt, shr-shr, high, low, field, mod-mod-pow}
 use lib.Arith.{digits-lt}
@@ -17,7 +17,6 @@ use Rattle.poly.specs.Polynomial.{rem, degree, powers}
 use Rattle.poly.specs.Generators.{Divisor}
 use Rattle.poly.proofs.DivisionLaws.{rem-xor}
 use Rattle.packet.specs.Packet.{Bytes, bits, polynomial, polynomialAfter, remainder, bitAt, flip, flips}
-use Rattle.packet.proofs.PacketLaws.{polynomial-snoc, pow-positive}
 
 -- ---- the polynomial of a joined packet
 

@@ -3,7 +3,7 @@ use mathlib.Core.Path.{_≡_, refl, sym, ap, ap₂, _∙_}
 use Prim.Native.Nat.{ℕ, zero, suc, _+_, _-_, _*_, _/_, _%_, _^_, _<_, _≤_}
 use native.Mathlib.Omega.{arith}
 use native.Mathlib.Nat.{add-zero, mod-lt, div-eq-of-lt, div-lt-iff-lt-mul, le-div-iff-mul-le}
-use lib.Pow.{pow-add, pow-pos, pow-mono, split}
+use lib.Pow.{pow-add, pow-pos, split}
 use lib.Bits.{bitXor, xor-block, xor-zero-r, xor-comm}
 use lib.Arith.{digits-lt}
 use Rattle.base.proofs.Cases.{by-order}

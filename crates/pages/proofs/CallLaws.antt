@@ -1,13 +1,11 @@
 -- The conditions of a page call, judged in two parts: 1 and 2 by the packet's judge, the later ones for the generator made.
-use mathlib.Core.Path.{_≡_, refl, sym, ap, subst, _∙_}
+use mathlib.Core.Path.{_≡_, sym, ap, subst, _∙_}
 use mathlib.Core.Bool.{false, true≢false, or-true}
-use mathlib.Core.List.{List, [], _∷_}
+use mathlib.Core.List.{List}
 use Prim.Native.Nat.{ℕ, _^_, _<_, _≤_}
-use native.Mathlib.Omega.{arith}
 use borrow.Author.Tests.{le-leb, lt-ltb}
-use lib.ListN.{length}
 use Rattle.base.specs.Lists.{All}
-use Rattle.base.specs.Outcome.{Outcome, refused, accepted, Condition, judge}
+use Rattle.base.specs.Outcome.{refused, accepted, Condition, judge}
 use Rattle.base.specs.Refusals.{number}
 use Rattle.base.specs.declared.Refusal.{Refusal}
 use Rattle.base.proofs.Cases.{by-order}
@@ -19,7 +17,7 @@ use Rattle.poly.specs.declared.Construction.the-variants.{Made}
 use Rattle.packet.specs.Calls.{packetConditions, admitted}
 use Rattle.packet.proofs.AdmitLaws.{Admitted, admitted-past, admitted-made}
 use Rattle.patterns.specs.Patterns.{Place, start, ended, after}
-use Rattle.patterns.specs.Marks.{unfitMark, unfitPattern}
+use Rattle.patterns.specs.Marks.{unfitMark}
 use Rattle.patterns.proofs.MarkLaws.{fit-iff}
 use Rattle.tables.proofs.TableLaws.{right-unless-wrong}
 use Rattle.pages.specs.Conditions.{unfitLimit, unfitSyndrome, laterConditions}

@@ -1,19 +1,19 @@
 -- A page under way: which patterns are done and which are left, what the output holds, and how it ends.
-use mathlib.Core.Path.{_≡_, refl, sym, ap, ap₂, _∙_}
-use mathlib.Core.List.{List, [], _∷_, _++_, append-nil, append-assoc}
-use Prim.Native.Nat.{ℕ, zero, suc, _+_, _*_, _-_, _<_, _≤_}
+use mathlib.Core.Path.{_≡_, refl, sym, ap, _∙_}
+use mathlib.Core.List.{List, [], _∷_, _++_, append-nil}
+use Prim.Native.Nat.{ℕ, zero, _+_, _*_, _-_, _<_, _≤_}
 use native.Mathlib.Omega.{arith}
 use native.Mathlib.Nat.{sub-zero}
 use lib.ListN.{length, take, drop, length-append, length-take}
 use lib.Seq.{append-snoc, length-take-le, take-all}
-use Rattle.patterns.specs.Patterns.{Place, ended, after, positions, placeOf}
+use Rattle.patterns.specs.Patterns.{Place, ended, after, positions}
 use Rattle.patterns.specs.Order.{before}
 use Rattle.patterns.specs.Listing.{Ascending, sift}
 use Rattle.patterns.specs.Pages.{records, recordOf, fitting, lastOf, nextPlace, Page, pageOf, pageBytes}
 use Rattle.patterns.specs.RecordPut.{RecordPut}
 use Rattle.patterns.specs.declared.Pattern.{Pattern}
 use Rattle.patterns.proofs.PageLaws.{record-length, records-longer, page-put, fitting-on, fitting-off, fitting-out, next-ended, next-after}
-use Rattle.search.specs.Search.{Told, Leads}
+use Rattle.search.specs.Search.{Told}
 use Rattle.search.specs.declared.Found.{Found}
 use Rattle.search.specs.declared.Found.the-variants.{At, Nothing}
 use Rattle.pages.specs.Filling.{FoundFits, aheadOf}

@@ -1,7 +1,7 @@
 -- The tables of a generator serve the search: its powers are those of x, and its list is the listing.
-use mathlib.Core.Path.{_≡_, refl, sym, ap, ap₂, _∙_}
+use mathlib.Core.Path.{_≡_, ap, _∙_}
 use mathlib.Core.List.{List, [], _∷_}
-use Prim.Native.Nat.{ℕ, zero, suc, _+_, _*_, _^_, _<_, _≤_}
+use Prim.Native.Nat.{ℕ, zero, _^_, _<_, _≤_}
 use native.Mathlib.Omega.{arith}
 use native.Mathlib.Nat.{zero-add}
 use lib.Bits.{bitXor, xor-lt}
@@ -18,7 +18,7 @@ use Rattle.tables.proofs.FirstLaws.{first-hit, first-least}
 use Rattle.tables.proofs.TableLaws.{length-values, getD-values, length-firstTable, getD-firstTable}
 use Rattle.patterns.specs.Listing.{syndrome, listing, sift, upTo}
 use Rattle.patterns.proofs.SiftLaws.{sift-same}
-use Rattle.search.specs.Search.{xorAll, summing, listed, Lookup, Shape, Ready}
+use Rattle.search.specs.Search.{xorAll, summing, listed}
 use Rattle.pages.specs.Filling.{Searchable}
 use Rattle.pages.specs.Judged.{Fit}
 

@@ -1,6 +1,6 @@
 -- The answer of the conditions that come after 1 and 2, for inner functions.
 use Prim.Native.Nat.{ℕ, _≤_}
-use mathlib.Core.List.{List, [], _∷_}
+use mathlib.Core.List.{List}
 use Rattle.base.specs.Outcome.{Outcome, refused, accepted, judge}
 use Rattle.base.specs.Refusals.{number}
 use Rattle.poly.specs.Generators.{Divisor}

@@ -1,7 +1,7 @@
 -- The order of patterns: fewer positions come first; equal counts are compared by smallest position, then the next,
 -- and so on, lower first.
 use Prim.Native.Nat.{ℕ}
-use mathlib.Core.Bool.{Bool, true, false, _||_, _&&_}
+use mathlib.Core.Bool.{Bool, false, _||_, _&&_}
 use mathlib.Core.List.{List, [], _∷_}
 use lib.Dec.{eqb, ltb}
 use lib.ListN.{length}

@@ -1,13 +1,13 @@
 -- Division of binary polynomials by g of degree n, for every n.
-use mathlib.Core.Path.{_≡_, refl, sym, ap, ap₂, _∙_, subst}
+use mathlib.Core.Path.{_≡_, refl, sym, ap, ap₂, _∙_}
 use Prim.Native.Nat.{ℕ, zero, suc, _+_, _-_, _*_, _/_, _%_, _^_, _<_, _≤_}
 use native.Mathlib.Omega.{arith}
 use native.Mathlib.Nat.{zero-mul, one-mul, mul-assoc, pow-suc, zero-add, add-zero, div-eq-of-lt, div-eq-of-lt-le, div-lt-iff-lt-mul}
 use lib.Arith.{bin-ind}
 use lib.Pow.{pow-pos}
-use lib.Bits.{bitXor, differ, xor-step, xor-zero-l, xor-zero-r, xor-self, xor-comm, xor-shr, xor-block, xor-shifted, xor-lt}
+use lib.Bits.{bitXor, xor-zero-l, xor-self, xor-shr, xor-block, xor-shifted, xor-lt}
 use Rattle.base.proofs.Cases.{by-order}
-use Rattle.base.proofs.XorLaws.{mod-two-lt, xor-assoc, xor-left-comm, xor-cancel, xor-half, xor-low, xor-ac}
+use Rattle.base.proofs.XorLaws.{mod-two-lt, xor-assoc, xor-half, xor-low, xor-ac}
 use Rattle.poly.specs.Polynomial.{times, down, rem, reduce}
 use Rattle.poly.proofs.FoldLaws.{down-step, down-zero}
 use Rattle.poly.proofs.ProductLaws.{times-step, times-zero, digit-sum, digit-xor, xor-double, xor-digit, xor-join}

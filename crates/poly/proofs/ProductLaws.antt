@@ -2,10 +2,10 @@
 use mathlib.Core.Path.{_≡_, refl, sym, ap, ap₂, _∙_}
 use Prim.Native.Nat.{ℕ, zero, suc, _+_, _*_, _/_, _%_, _<_}
 use native.Mathlib.Omega.{arith}
-use native.Mathlib.Nat.{zero-mul, mul-one, one-mul}
+use native.Mathlib.Nat.{zero-mul}
 use lib.Arith.{bin-ind}
-use lib.Bits.{bitXor, differ, xor-step, xor-zero-l, xor-zero-r, xor-self, xor-comm}
-use Rattle.base.proofs.XorLaws.{mod-two-lt, xor-assoc, xor-left-comm, xor-cancel, xor-half, xor-low, xor-ac}
+use lib.Bits.{bitXor, differ, xor-step, xor-zero-l, xor-zero-r, xor-self}
+use Rattle.base.proofs.XorLaws.{mod-two-lt, xor-half, xor-low, xor-ac}
 use Rattle.poly.specs.Polynomial.{times, down}
 use Rattle.poly.proofs.FoldLaws.{down-step, down-zero}
 

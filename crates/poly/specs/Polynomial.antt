@@ -1,6 +1,6 @@
 -- Binary polynomials as numbers: bit i of a number is the coefficient of x^i, so x^p is 2 ^ p and the sum is XOR.
 use Prim.Native.Nat.{ℕ, zero, suc, _+_, _*_, _/_, _%_, _^_}
-use mathlib.Core.Bool.{Bool, true, false}
+use mathlib.Core.Bool.{true, false}
 use mathlib.Core.List.{List, [], _∷_}
 use lib.Bits.{bitXor}
 use lib.Dec.{ltb}

@@ -1,16 +1,15 @@
 -- What a verdict says of the candidates cs that it was settled by, where `sound` is whether both checks pass.
-use mathlib.Core.Path.{_≡_, refl, sym, ap, subst, _∙_}
+use mathlib.Core.Path.{_≡_, refl, sym, ap, _∙_}
 use mathlib.Core.Bool.{Bool, true, false}
 use mathlib.Core.List.{List, [], _∷_}
 use Prim.Native.Nat.{ℕ, _<_}
 use native.Mathlib.Omega.{arith}
 use lib.ListN.{length}
-use Rattle.base.specs.Lists.{In, here, there, All}
+use Rattle.base.specs.Lists.{In, here, All}
 use Rattle.base.specs.Outcome.{pick}
-use Rattle.packet.specs.Packet.{bits, flips}
+use Rattle.packet.specs.Packet.{flips}
 use Rattle.patterns.specs.Patterns.{positions}
-use Rattle.patterns.specs.Listing.{Ascending, listing, sift}
-use Rattle.patterns.specs.declared.Pattern.{Pattern}
+use Rattle.patterns.specs.Listing.{listing, sift}
 use Rattle.patterns.proofs.SiftLaws.{sift-in}
 use Rattle.patterns.proofs.ListingLaws.{listed-iff}
 use Rattle.repair.specs.Steps.{earliest}

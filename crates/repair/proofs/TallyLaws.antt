@@ -2,7 +2,7 @@
 use mathlib.Core.Path.{_≡_, refl, sym, ap, ap₂, _∙_}
 use mathlib.Core.Bool.{Bool, true, false, not}
 use mathlib.Core.List.{List, [], _∷_, _++_, append-nil, append-assoc}
-use Prim.Native.Nat.{ℕ, suc, _+_, _^_, _-_, _<_, _≤_}
+use Prim.Native.Nat.{ℕ, _+_, _^_, _-_, _<_, _≤_}
 use native.Mathlib.Omega.{arith}
 use lib.ListN.{length, take, length-append}
 use Rattle.base.proofs.Cases.{by-test}
@@ -12,7 +12,7 @@ use Rattle.patterns.specs.Order.{before}
 use Rattle.patterns.specs.Listing.{Ascending, sift}
 use Rattle.patterns.specs.declared.Pattern.{Pattern}
 use Rattle.patterns.proofs.FollowLaws.{remaining-start}
-use Rattle.patterns.proofs.SiftLaws.{sift-keep, sift-skip, sift-length}
+use Rattle.patterns.proofs.SiftLaws.{sift-keep, sift-skip}
 use Rattle.search.specs.Search.{Told}
 use Rattle.search.specs.declared.Found.{Found}
 use Rattle.search.specs.declared.Found.the-variants.{At, Nothing}

@@ -1,16 +1,16 @@
 -- The shares and weights of the checksum by the tests that decide them, and positions as the checksum's laws take them.
-use mathlib.Core.Path.{_≡_, refl, sym, ap, _∙_}
-use mathlib.Core.Bool.{true, false, and-false}
+use mathlib.Core.Path.{_≡_, ap, _∙_}
+use mathlib.Core.Bool.{false, and-false}
 use mathlib.Core.List.{List, [], _∷_}
-use Prim.Native.Nat.{ℕ, zero, suc, _+_, _-_, _*_, _%_, _<_, _≤_}
+use Prim.Native.Nat.{ℕ, zero, suc, _+_, _-_, _*_, _<_, _≤_}
 use native.Mathlib.Omega.{arith}
 use native.Mathlib.Nat.{mul-le-mul}
-use borrow.Author.Tests.{le-leb, lt-leb, lt-ltb, le-ltb}
+use borrow.Author.Tests.{lt-leb, le-ltb}
 use lib.ListN.{length, getD, drop}
 use lib.Seq.{drop-cons}
 use Rattle.base.specs.Lists.{All, none, each, Chain, empty, single, link}
-use Rattle.packet.specs.Packet.{Bytes, bits, bitAt}
-use Rattle.checksum.specs.Totals.{share, place, weight, setWeight, clearWeight, total}
+use Rattle.packet.specs.Packet.{Bytes, bitAt}
+use Rattle.checksum.specs.Totals.{share, weight, setWeight, clearWeight, total}
 use Rattle.checksum.proofs.SumLaws.{total-nil, total-one, total-two}
 use Rattle.checksum.proofs.WeightLaws.{setWeight-cons, clearWeight-cons}
 use Rattle.patterns.specs.Listing.{Ascending, none as end, next}

@@ -1,6 +1,6 @@
 -- The verdict and the later conditions for a generator made, for inner functions.
 use Prim.Native.Nat.{ℕ}
-use mathlib.Core.Bool.{Bool, _&&_}
+use mathlib.Core.Bool.{_&&_}
 use mathlib.Core.List.{List}
 use lib.Dec.{eqb}
 use Rattle.base.specs.Outcome.{Outcome, refused, accepted, judge, pick}

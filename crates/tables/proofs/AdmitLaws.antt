@@ -9,11 +9,11 @@ use Rattle.base.specs.Refusals.{number}
 use Rattle.base.specs.declared.Refusal.{Refusal}
 use Rattle.base.proofs.JudgeLaws.{first-of, rest-of}
 use Rattle.poly.specs.Polynomial.{degree}
-use Rattle.poly.specs.Generators.{unfit, construction, constructed, generatorOf, Divisor}
+use Rattle.poly.specs.Generators.{unfit, construction, constructed, generatorOf}
 use Rattle.poly.specs.declared.Generator.{Generator}
 use Rattle.poly.specs.declared.Construction.{Construction}
 use Rattle.poly.specs.declared.Construction.the-variants.{Made, Refused}
-use Rattle.poly.proofs.GeneratorLaws.{refused-by, made-by, made-value, made-clear, fit-accepted, Accepted}
+use Rattle.poly.proofs.GeneratorLaws.{refused-by, made-by, made-value, made-clear, fit-accepted}
 use Rattle.tables.specs.Tables.{unfitTables, Lent}
 use Rattle.tables.specs.Calls.{tablesConditions, admitted}
 use Rattle.tables.proofs.TableLaws.{fit-lengths}

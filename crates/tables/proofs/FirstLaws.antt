@@ -10,7 +10,6 @@ use lib.Pow.{pow-mono, pow-pos}
 use Rattle.poly.specs.Generators.{Divisor}
 use Rattle.tables.specs.Tables.{power, step, first, period, absent}
 use Rattle.tables.proofs.LeastLaws.{least-found, least-or-other, Least}
-use Rattle.tables.proofs.StepLaws.{Inverts}
 use Rattle.tables.proofs.PowerLaws.{power-nonzero, step-power}
 use Rattle.tables.proofs.PeriodLaws.{period-positive, period-lt, power-period, power-turns, power-mod, power-only, power-apart}
 

@@ -6,7 +6,6 @@ use native.Mathlib.Omega.{arith}
 use native.Mathlib.Nat.{one-mul, mod-eq-of-lt}
 use lib.ListN.{length}
 use lib.Pow.{pow-mono}
-use Rattle.poly.specs.Generators.{Divisor}
 use Rattle.tables.specs.Tables.{Lent}
 
 pub pow-narrow : (n : ℕ) → n ≤ 16 → 2 ^ n ≤ 65536

@@ -15,7 +15,7 @@ use Rattle.poly.specs.Polynomial.{reduce}
 use Rattle.poly.specs.Generators.{Divisor}
 use Rattle.tables.specs.Tables.{power, step, first, period, stepTable, firstTable}
 use Rattle.tables.specs.Rule.{later, EvenRuled, OddRuled}
-use Rattle.tables.proofs.StepLaws.{by-parity, step-is, step-halves, step-inverts, Inverts, rem-twice}
+use Rattle.tables.proofs.StepLaws.{by-parity, step-is, step-halves, step-inverts, rem-twice}
 use Rattle.tables.proofs.PowerLaws.{power-lt, power-suc, power-zero, power-nonzero, step-power}
 use Rattle.tables.proofs.PeriodLaws.{period-positive, period-least, power-period}
 use Rattle.tables.proofs.FirstLaws.{first-hit, first-early, first-below, first-none, first-zero, first-present, period-narrow}

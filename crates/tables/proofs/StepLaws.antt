@@ -13,7 +13,7 @@ use Rattle.poly.specs.Polynomial.{rem, reduce}
 use Rattle.poly.specs.Generators.{Divisor}
 use Rattle.poly.proofs.DivisionLaws.{reduce-low, reduce-high, reduce-lt, rem-double, rem-small}
 use Rattle.tables.specs.Tables.{step}
-use Rattle.tables.proofs.LeastLaws.{least-found, Least}
+use Rattle.tables.proofs.LeastLaws.{least-found}
 
 -- a digit times a number is at most that number
 pub digit-times : (e h : ℕ) → e < 2 → e * h ≤ h

@@ -1,6 +1,6 @@
 -- The tables as lists: their lengths and entries, a list that has those entries is the table, and the tests of conditions 5 and 6 say what they mean.
 use mathlib.Core.Path.{_≡_, refl, sym, ap, ap₂, _∙_}
-use mathlib.Core.Bool.{Bool, true, false, true≢false, not, or-true}
+use mathlib.Core.Bool.{true, false, true≢false, not, or-true}
 use mathlib.Core.List.{List, [], _∷_}
 use Prim.Native.Nat.{ℕ, zero, suc, _+_, _^_, _<_, _≤_}
 use native.Mathlib.Omega.{arith}

@@ -14,7 +14,6 @@ use Rattle.poly.specs.Generators.{Divisor}
 use Rattle.tables.specs.Tables.{power, first, period, firstTable}
 use Rattle.tables.proofs.PowerLaws.{power-lt, power-suc}
 use Rattle.tables.proofs.PeriodLaws.{period-least, power-period, power-apart}
-use Rattle.tables.proofs.FirstLaws.{Found}
 use Rattle.tables.proofs.TableLaws.{firstTable-by-powers}
 
 -- the entries after the first p powers

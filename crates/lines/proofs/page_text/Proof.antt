@@ -1,7 +1,6 @@
 -- `page_text` writes a page's lines. Invariant: what is stored, with the text of the records left, is the whole text, and
 -- there are four bytes of room for each byte left of the page.
 use mathlib.Core.Path.{refl}
-use mathlib.Core.List.{[]}
 use Prim.Native.Nat.{_+_, _-_, _*_, _≤_}
 use borrow.Author.Needs.{needs}
 use lib.ListN.{length, getD, drop}

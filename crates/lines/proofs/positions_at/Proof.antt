@@ -1,6 +1,6 @@
 -- `positions_at` writes the positions with their blanks. Invariant: what is stored, with the positions left, is the whole text.
 use mathlib.Core.Path.{_≡_}
-use mathlib.Core.List.{[], _++_}
+use mathlib.Core.List.{_++_}
 use Prim.Native.Nat.{ℕ, _+_, _-_, _*_, _≤_}
 use borrow.Author.Needs.{needs}
 use lib.ListN.{length, getD, drop, length-set}

@@ -2,7 +2,7 @@
 -- them, followed by the bytes done, is the whole sum. i falls.
 use mathlib.Core.Path.{_≡_, refl, sym, ap, ap₂, _∙_}
 use mathlib.Core.List.{List, _++_, append-nil}
-use Prim.Native.Nat.{ℕ, suc, _-_, _/_, _%_, _≤_}
+use Prim.Native.Nat.{ℕ, suc, _-_, _%_, _≤_}
 use native.Mathlib.Omega.{arith}
 use borrow.Author.Needs.{needs}
 use lib.Bits.{bitXor, xor-zero-r}

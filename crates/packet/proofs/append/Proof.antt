@@ -2,7 +2,6 @@
 use mathlib.Core.Path.{_≡_, refl, sym, _∙_}
 use Prim.Native.Nat.{ℕ, suc, _+_, _-_, _*_, _^_, _<_, _≤_}
 use native.Mathlib.Omega.{arith}
-use native.Mathlib.Nat.{add-zero}
 use lib.Pow.{pow-add, pow-mono}
 use Rattle.poly.specs.Polynomial.{rem}
 use Rattle.poly.proofs.DivisionLaws.{rem-small}

@@ -1,6 +1,5 @@
 -- `seal` answers by conditions 1 and 2 and then leaves the packet alone; else the remainder is XORed into its last bits.
-use mathlib.Core.Path.{_≡_, sym, ap, _∙_}
-use mathlib.Core.List.{List}
+use mathlib.Core.Path.{sym, ap, _∙_}
 use Prim.Native.Nat.{ℕ, _*_}
 use native.Mathlib.Omega.{arith}
 use borrow.Author.Needs.{needs}

@@ -6,7 +6,6 @@ use borrow.Author.Needs.{needs}
 use lib.ListN.{length}
 use Rattle.tables.specs.Tables.{power}
 use Rattle.patterns.specs.Patterns.{positions}
-use Rattle.patterns.specs.Listing.{Ascending}
 use Rattle.pages.proofs.SearchLaws.{put-length, put-take, told-from}
 use Rattle.pages.proofs.go_on.Statement.{statement}
 use Rattle.pages.proofs.go_on.Tie as tie

@@ -2,7 +2,6 @@
 use mathlib.Core.Path.{_≡_, sym, ap, _∙_}
 use mathlib.Core.List.{List}
 use Prim.Native.Nat.{ℕ}
-use native.Mathlib.Omega.{arith}
 use borrow.Author.Needs.{needs}
 use lib.ListN.{length}
 use Rattle.patterns.specs.Patterns.{placeOf}
@@ -12,7 +11,6 @@ use Rattle.tables.specs.Tables.{power}
 use Rattle.tables.proofs.TableLaws.{length-stepTable}
 use Rattle.patterns.specs.Listing.{listing}
 use Rattle.search.specs.Search.{listed}
-use Rattle.pages.specs.Filling.{Marked}
 use Rattle.pages.proofs.LookupLaws.{searchable, pow-length, listing-listed}
 use Rattle.pages.proofs.page_within.Statement.{statement}
 use Rattle.pages.proofs.page_within.Tie as tie

@@ -1,5 +1,4 @@
 -- `both_pass` is the remainder's check, and then the second.
-use mathlib.Core.Path.{_∙_}
 use borrow.Author.Needs.{needs}
 use borrow.Author.Tests.{eq-eqb, ne-eqb}
 use Rattle.repair.proofs.both_pass.Statement.{statement}

@@ -1,8 +1,8 @@
 -- `settle` says intact where both checks pass, and else goes by the tally of the candidates.
-use mathlib.Core.Path.{_≡_, sym, ap, subst, _∙_}
-use mathlib.Core.Bool.{true, false, _&&_}
+use mathlib.Core.Path.{_≡_, sym, ap, _∙_}
+use mathlib.Core.Bool.{_&&_}
 use mathlib.Core.List.{List}
-use Prim.Native.Nat.{ℕ, _*_, _^_, _<_, _≤_}
+use Prim.Native.Nat.{ℕ}
 use native.Mathlib.Omega.{arith}
 use borrow.Author.Needs.{needs}
 use lib.Dec.{eqb}
@@ -13,9 +13,7 @@ use Rattle.packet.specs.Packet.{bits, polynomial}
 use Rattle.checksum.specs.Checksum.{range, passes}
 use Rattle.checksum.specs.Totals.{total, multiple}
 use Rattle.checksum.proofs.RangeLaws.{passes-total, range-bytes, range-length}
-use Rattle.patterns.specs.Listing.{listing, sift}
-use Rattle.repair.specs.Steps.{Tallied, earliest}
-use Rattle.repair.specs.Verdicts.{settled}
+use Rattle.repair.specs.Steps.{Tallied}
 use Rattle.repair.specs.Judged.{madeCandidates}
 use Rattle.repair.proofs.WeighLaws.{total-bound}
 use Rattle.repair.proofs.settle.Statement.{statement}

@@ -1,5 +1,5 @@
 -- `share_of` goes by the byte's place: outside the range, or at an even or odd distance from its start.
-use mathlib.Core.Path.{_≡_, sym, _∙_}
+use mathlib.Core.Path.{sym, _∙_}
 use native.Mathlib.Omega.{arith}
 use Rattle.checksum.proofs.RangeLaws.{share-within, place-even, place-odd}
 use Rattle.repair.proofs.WeighLaws.{share-below, share-above}

@@ -1,18 +1,14 @@
 -- `tally_by` searches from the start, and tallies from there: the whole list.
-use mathlib.Core.Path.{_≡_, sym, ap, _∙_}
+use mathlib.Core.Path.{_≡_}
 use mathlib.Core.List.{List}
 use Prim.Native.Nat.{ℕ}
 use native.Mathlib.Omega.{arith}
 use borrow.Author.Needs.{needs}
 use lib.ListN.{length}
-use Rattle.packet.specs.Packet.{flips}
-use Rattle.checksum.specs.Checksum.{passes}
 use Rattle.patterns.specs.Patterns.{start}
-use Rattle.patterns.specs.Listing.{sift}
 use Rattle.patterns.specs.Marks.{remaining}
-use Rattle.pages.specs.Filling.{searched, aheadOf}
+use Rattle.pages.specs.Filling.{searched}
 use Rattle.pages.proofs.SearchLaws.{told-fits}
-use Rattle.repair.specs.Steps.{Tallied, Weighable}
 use Rattle.repair.proofs.TallyLaws.{started}
 use Rattle.repair.proofs.tally_by.Statement.{statement}
 use Rattle.repair.proofs.tally_by.Tie as tie

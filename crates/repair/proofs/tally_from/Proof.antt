@@ -1,7 +1,6 @@
 -- `tally_from` counts the patterns that pass from the one found on, and keeps the first. Invariant: `Tallying` of the laws.
 -- What is ahead in the list falls.
-use mathlib.Core.Path.{_≡_, refl, sym, ap, _∙_}
-use mathlib.Core.Bool.{Bool}
+use mathlib.Core.Path.{_≡_, refl, sym, _∙_}
 use mathlib.Core.List.{List}
 use Prim.Native.Nat.{ℕ, _≤_}
 use native.Mathlib.Omega.{arith}

@@ -13,7 +13,7 @@ use Rattle.tables.specs.Tables.{power}
 use Rattle.tables.proofs.TableLaws.{length-stepTable}
 use Rattle.search.specs.Search.{listed}
 use Rattle.pages.proofs.LookupLaws.{searchable, pow-length, listing-listed}
-use Rattle.repair.specs.Steps.{Tallied, Weighable}
+use Rattle.repair.specs.Steps.{Tallied}
 use Rattle.repair.proofs.tally_within.Statement.{statement}
 use Rattle.repair.proofs.tally_within.Tie as tie
 

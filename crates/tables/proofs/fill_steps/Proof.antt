@@ -6,7 +6,7 @@ use borrow.Author.Needs.{needs}
 use lib.Bits.{bitXor}
 use lib.ListN.{length, getD, length-set}
 use Rattle.tables.proofs.StepLaws.{step-halves}
-use Rattle.tables.proofs.LentLaws.{Small, lent-small}
+use Rattle.tables.proofs.LentLaws.{lent-small}
 use Rattle.tables.proofs.TableLaws.{entries-more, stepTable-by-entries}
 use Rattle.tables.proofs.fill_steps.Statement.{statement}
 use Rattle.tables.proofs.fill_steps.Tie as tie

@@ -5,8 +5,8 @@ use Prim.Native.Nat.{ℕ, _+_, _<_}
 use native.Mathlib.Omega.{arith}
 use lib.ListN.{length, getD}
 use Rattle.tables.specs.Tables.{step, first, period}
-use Rattle.tables.proofs.LentLaws.{Small, lent-small}
-use Rattle.tables.proofs.StepLaws.{Inverts, step-inverts}
+use Rattle.tables.proofs.LentLaws.{lent-small}
+use Rattle.tables.proofs.StepLaws.{step-inverts}
 use Rattle.tables.proofs.TableLaws.{getD-stepTable, getD-firstTable, length-firstTable}
 use Rattle.tables.proofs.FirstLaws.{period-from-tables}
 use Rattle.tables.proofs.period_of.Statement.{statement}

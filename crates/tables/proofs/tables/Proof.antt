@@ -1,7 +1,5 @@
 -- `tables` answers by conditions 1 and 5 and then leaves both slices alone; else they hold the tables, and the answer is the period.
 use mathlib.Core.Path.{sym, ap, _∙_}
-use mathlib.Core.List.{List}
-use Prim.Native.Nat.{ℕ}
 use borrow.Author.Needs.{needs}
 use Rattle.base.specs.Outcome.{refused, accepted}
 use Rattle.poly.specs.Polynomial.{degree}

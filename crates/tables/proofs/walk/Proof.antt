@@ -1,12 +1,11 @@
 -- `walk` stores each power's position at its remainder, and stops at the period. The invariant: t is what x^p leaves, p is below
 -- the period, and the list holds the positions of the powers before p. The measure is what is left of the period.
 use mathlib.Core.Path.{_≡_, refl, sym, _∙_}
-use mathlib.Core.List.{List}
-use Prim.Native.Nat.{ℕ, _+_, _-_, _^_, _<_}
+use Prim.Native.Nat.{_+_, _-_, _^_, _<_}
 use native.Mathlib.Omega.{arith}
 use lib.ListN.{length, set, length-set}
 use Rattle.tables.specs.Tables.{power, period}
-use Rattle.tables.proofs.LentLaws.{Small, lent-small}
+use Rattle.tables.proofs.LentLaws.{lent-small}
 use Rattle.tables.proofs.PowerLaws.{power-lt, power-zero}
 use Rattle.tables.proofs.PeriodLaws.{period-positive, period-lt}
 use Rattle.tables.proofs.WalkLaws.{Walked, walked-none, walked-more, walked-all, power-next, returned, not-returned}

@@ -1,6 +1,6 @@
 -- `wrong_evens` tests the rule at even places. The invariant: the mismatches gathered are 0 exactly when the places passed obey it.
 use mathlib.Core.Path.{_≡_}
-use Prim.Native.Nat.{ℕ, _-_, _*_, _/_, _≤_}
+use Prim.Native.Nat.{_-_, _*_, _/_, _≤_}
 use native.Mathlib.Omega.{arith}
 use borrow.Author.Needs.{needs}
 use lib.Bits.{bitXor}

@@ -4,7 +4,7 @@ use borrow.Author.Needs.{needs}
 use lib.Bits.{bitOr}
 use lib.ListN.{getD}
 use Rattle.tables.specs.Tables.{firstTable}
-use Rattle.tables.proofs.LentLaws.{Small, lent-small}
+use Rattle.tables.proofs.LentLaws.{lent-small}
 use Rattle.tables.proofs.TableLaws.{zero-same}
 use Rattle.tables.proofs.RuleLaws.{first-rules}
 use Rattle.tables.proofs.GatherLaws.{or-zero}

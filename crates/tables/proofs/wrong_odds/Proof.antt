@@ -1,12 +1,12 @@
 -- `wrong_odds` tests the rule at odd places above 1. The invariant: the mismatches gathered are 0 exactly when the places passed obey it.
 use mathlib.Core.Path.{_≡_, refl}
-use Prim.Native.Nat.{ℕ, _+_, _-_, _*_, _/_, _≤_, _<_}
+use Prim.Native.Nat.{_+_, _-_, _*_, _/_, _≤_, _<_}
 use native.Mathlib.Omega.{arith}
 use borrow.Author.Needs.{needs}
 use lib.Bits.{bitXor}
 use lib.ListN.{length, getD}
 use Rattle.tables.specs.Rule.{later}
-use Rattle.tables.proofs.LentLaws.{Small, lent-small}
+use Rattle.tables.proofs.LentLaws.{lent-small}
 use Rattle.tables.proofs.RuleLaws.{odd-step-lt}
 use Rattle.tables.proofs.GatherLaws.{Gathered, gathered-more, gathered-all, mismatch}
 use Rattle.tables.proofs.wrong_odds.Statement.{statement}

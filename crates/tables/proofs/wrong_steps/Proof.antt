@@ -1,12 +1,12 @@
 -- `wrong_steps` compares the step table, two entries a turn. The invariant: the mismatches gathered are 0 exactly when the pairs
 -- passed are right.
 use mathlib.Core.Path.{_≡_, refl}
-use Prim.Native.Nat.{ℕ, _+_, _-_, _*_, _/_, _≤_}
+use Prim.Native.Nat.{_+_, _-_, _*_, _/_, _≤_}
 use native.Mathlib.Omega.{arith}
 use lib.Bits.{bitXor}
 use lib.ListN.{length, getD}
 use Rattle.tables.specs.Tables.{stepTable}
-use Rattle.tables.proofs.LentLaws.{Small, lent-small}
+use Rattle.tables.proofs.LentLaws.{lent-small}
 use Rattle.tables.proofs.TableLaws.{zero-same}
 use Rattle.tables.proofs.RuleLaws.{step-rule}
 use Rattle.tables.proofs.GatherLaws.{Gathered, gathered-none, gathered-more, gathered-all, mismatch, or-zero}
