@@ -3,6 +3,7 @@ use Prim.Native.Nat.{ℕ, _*_}
 use mathlib.Core.Path.{_≡_}
 use mathlib.Core.Bool.{Bool, not}
 use mathlib.Core.List.{List, [], _∷_}
+use denote.Ref.{RefT}
 use lib.Dec.{eqb}
 use lib.ListN.{length}
 use Rattle.base.specs.Lists.{In}
@@ -99,9 +100,9 @@ handedBack (repaired p) received copy = copy
 handedBack (several k p) received copy = []
 handedBack nothing received copy = []
 
--- which slice that is: the received one itself, or the copy itself
-abbrev pub HandedItself : {A : Type 0} → Said → A → A → A → Type 0
+-- which slice that is: the received one itself, the copy itself, or a part of the received one, from its beginning
+abbrev pub HandedItself : {X : Type 0} → Said → RefT X → RefT X → RefT X → Type 0
 HandedItself intact r received copy = r ≡ received
 HandedItself (repaired p) r received copy = r ≡ copy
-HandedItself (several k p) r received copy = Unit {0}
-HandedItself nothing r received copy = Unit {0}
+HandedItself (several k p) r received copy = r .ptr ≡ received .ptr
+HandedItself nothing r received copy = r .ptr ≡ received .ptr

@@ -29,10 +29,10 @@ returns-2 : tie.Need-returns-2
 returns-2 c = rw (c .enum-told2 .given .1) (refl, refl)
 
 returns-3 : tie.Need-returns-3
-returns-3 c = rw (c .before .enum-told3 .given .1) (refl, tt)
+returns-3 c = rw (c .before .enum-told3 .given .1) (refl, refl)
 
 returns-4 : tie.Need-returns-4
-returns-4 c = rw (c .before .enum-told4 .given .1) (refl, tt)
+returns-4 c = rw (c .before .enum-told4 .given .1) (refl, refl)
 
 pub hand-back-spec : {M : Type 1} → statement M
 hand-back-spec =
