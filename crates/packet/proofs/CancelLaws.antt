@@ -1,6 +1,6 @@
 -- One step of the division by the generator, at any height.
 use mathlib.Core.Path.{_≡_, refl, sym, ap, ap₂, _∙_}
-use Prim.Native.Nat.{ℕ, zero, suc, _+_, _-_, _*_, _/_, _%_, _^_, _<_, _≤_}
+use Prim.Native.Nat.{ℕ, suc, _+_, _-_, _*_, _/_, _%_, _^_, _<_, _≤_}
 use native.Mathlib.Omega.{arith}
 use native.Mathlib.Nat.{add-zero, mod-lt, div-eq-of-lt, div-lt-iff-lt-mul, le-div-iff-mul-le}
 use lib.Pow.{pow-add, pow-pos, split}
@@ -8,9 +8,9 @@ use lib.Bits.{bitXor, xor-block, xor-zero-r, xor-comm}
 use lib.Arith.{digits-lt}
 use Rattle.base.proofs.Cases.{by-order}
 use Rattle.poly.specs.Polynomial.{rem, reduce}
-use Rattle.poly.specs.Generators.{Divisor}
+use Rattle.poly.specs.Fit.{Divisor}
 use Rattle.poly.proofs.DivisionLaws.{rem-xor, rem-self, rem-shift-zero, reduce-high, reduce-lt}
-use Rattle.packet.specs.Steps.{Cancelled}
+use Rattle.packet.specs.Cancelling.{Cancelled}
 
 -- what does not shift out is at least the power
 pub high-part : (v k : ℕ) → (v / 2 ^ k ≡ 0 → ⊥) → 2 ^ k ≤ v
