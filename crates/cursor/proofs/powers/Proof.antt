@@ -9,8 +9,8 @@ use Rattle.tables.specs.Tables.{power}
 use Rattle.tables.proofs.PowerLaws.{power-lt, power-zero}
 use Rattle.tables.proofs.TableLaws.{entries-more, values-by-entries}
 use Rattle.tables.proofs.WalkLaws.{power-next}
-use Rattle.pages.proofs.powers.Statement.{statement}
-use Rattle.pages.proofs.powers.Tie as tie
+use Rattle.cursor.proofs.powers.Statement.{statement}
+use Rattle.cursor.proofs.powers.Tie as tie
 
 record Entered (n g : ℕ) (l now : List ℕ) (t i : ℕ) : Type 0 where
   within : i ≤ length l
@@ -19,16 +19,16 @@ record Entered (n g : ℕ) (l now : List ℕ) (t i : ℕ) : Type 0 where
   right : (k : ℕ) → k < i → getD now k 0 ≡ power n g k
 
 abbrev Inv-loop : tie.InvT-loop
-Inv-loop g pow₀ t₀ i₀ pow t i = Entered (g .degree) (g .bits) pow₀ pow t i
+Inv-loop g pow₀ t₀ i₀ pow t i = Entered (g .degree) (g .coefficients) pow₀ pow t i
 
 abbrev μ-loop : tie.MeasureT-loop
 μ-loop g pow₀ t₀ i₀ pow t i = length pow₀ - i
 
--- the power at hand is a remainder, and a generator of degree at most 16 is below 2^17
+-- the power at hand is a remainder
 small : (c : tie.In-loop Inv-loop μ-loop) → c .before .loop .t < 2 ^ c .before .before .before .args .g .degree
 small c =
     let s = c .before .before .before in
-    rw (c .before .loop .inv .next) (power-lt (s .args .g .degree) (s .args .g .bits) (s .pre .divisor) (c .before .loop .i))
+    rw (c .before .loop .inv .next) (power-lt (s .args .g .degree) (s .args .g .coefficients) (s .pre .divisor) (c .before .loop .i))
 
 loop-holds : tie.Need-loop-holds Inv-loop μ-loop
 loop-holds c =
@@ -36,36 +36,24 @@ loop-holds c =
     record {
       within = omega arith;
       long = refl;
-      next = sym (power-zero (c .before .args .g .degree) (c .before .args .g .bits) (d .divisor) (omega (arith, d .least)));
+      next = sym (power-zero (c .before .args .g .degree) (c .before .args .g .coefficients) (d .divisor) (omega (arith, d .least)));
       right = λ k h. absurd (omega arith);
     }
 
 cast-pow : tie.Need-cast-pow Inv-loop μ-loop
 cast-pow c = record { fits = omega (arith, small c, pow-mono (c .before .before .before .pre .most)) }
 
-mul-pow : tie.Need-mul-pow Inv-loop μ-loop
-mul-pow c = omega arith
-
-slice-write-pow : tie.Need-slice-write-pow Inv-loop μ-loop
-slice-write-pow c = omega arith
-
 times-x-requires : tie.Need-times-x-requires Inv-loop μ-loop
 times-x-requires c κs =
     let p = c .before .before .before .pre in
-    (p .most, omega (arith, p .divisor .high, pow-mono (p .most)), small c)
-
-add-i : tie.Need-add-i Inv-loop μ-loop
-add-i c = omega arith
-
-loop-less : tie.Need-loop-less Inv-loop μ-loop
-loop-less c = omega arith
+    (p, small c)
 
 loop-again : tie.Need-loop-again Inv-loop μ-loop
 loop-again c =
     let s = c .before .before .before .before in
     let l = c .before .before .loop in
     let n : ℕ = s .args .g .degree in
-    let g : ℕ = s .args .g .bits in
+    let g : ℕ = s .args .g .coefficients in
     record {
       within = omega arith;
       long = length-set (l .pow) (l .i) (l .t) ∙ l .inv .long;
@@ -80,7 +68,7 @@ returns : tie.Need-returns Inv-loop μ-loop
 returns c =
     let s = c .before .before .before in
     let l = c .before .loop in
-    values-by-entries (power (s .args .g .degree) (s .args .g .bits)) (length (s .args .pow .now)) (l .pow) (l .inv .long)
+    values-by-entries (power (s .args .g .degree) (s .args .g .coefficients)) (length (s .args .pow .now)) (l .pow) (l .inv .long)
     (λ k h. l .inv .right k (omega arith))
 
 pub powers-spec : {M : Type 1} → statement M
@@ -91,11 +79,11 @@ powers-spec =
     μ-loop
     loop-holds
     cast-pow
-    mul-pow
-    slice-write-pow
+    (λ c. omega arith)
+    (λ c. omega arith)
     times-x-requires
-    add-i
-    loop-less
+    (λ c. omega arith)
+    (λ c. omega arith)
     loop-again
     same-length
     returns)
