@@ -12,7 +12,7 @@ returns-2 : tie.Need-returns-2
 returns-2 c = (sym (share-above _ _ _ (c .if2 .taken)), omega arith)
 
 returns-3 : tie.Need-returns-3
-returns-3 c = (sym (share-within _ _ _ (c .before .before .if1 .left) (c .before .if2 .left) ∙ wordWeight-even _ (c .if3 .taken)), omega arith)
+returns-3 c = (sym (share-within _ _ _ (c .before .before .if1 .left) (c .before .if2 .left) ∙ wordWeight-even _ (omega (arith, c .if3 .taken))), omega arith)
 
 returns-4 : tie.Need-returns-4
 returns-4 c =

@@ -1,5 +1,5 @@
 -- `append` gives the remainder of r * x^8 + b. Invariant: v leaves that remainder and is below x^(n + j); j falls.
-use mathlib.Core.Path.{_≡_, refl, sym, _∙_}
+use mathlib.Core.Path.{_≡_, sym, ap, _∙_}
 use Prim.Native.Nat.{ℕ, suc, _+_, _-_, _*_, _^_, _<_, _≤_}
 use native.Mathlib.Omega.{arith}
 use lib.Pow.{pow-add, pow-mono}
@@ -22,7 +22,7 @@ add-v : tie.Need-add-v Inv-loop μ-loop
 add-v c = record { fits = omega (arith, pow-mono (c .pre .0 .most)) }
 
 loop-holds : tie.Need-loop-holds Inv-loop μ-loop
-loop-holds c = (omega arith, omega (arith, pow-add 2 (c .args .g .degree) 8), refl)
+loop-holds c = (omega arith, omega (arith, pow-add 2 (c .args .g .degree) 8), ap (rem (c .args .g .degree) (c .args .g .coefficients)) (omega arith))
 
 cancel-requires : tie.Need-cancel-requires Inv-loop μ-loop
 cancel-requires c κs =

@@ -8,14 +8,14 @@ use Rattle.packet.proofs.cancel.Statement.{statement}
 use Rattle.packet.proofs.cancel.Tie as tie
 
 returns : tie.Need-returns
-returns c = cancel-low (c .before .args .g .degree) (c .before .args .g .coefficients) (c .before .args .v) (c .before .args .j) (c .if1 .taken)
+returns c = cancel-low (c .before .args .g .degree) (c .before .args .g .coefficients) (c .before .args .v) (c .before .args .j) (omega (arith, c .if1 .taken))
 
 returns-2 : tie.Need-returns-2
 returns-2 c =
     let a = c .before .args in
     rw (shl-exact (suc (a .g .degree)) (a .j) 64 (c .before .pre .0 .divisor .high) (omega arith))
     (cancel-high (a .g .degree) (a .g .coefficients) (c .before .pre .0 .divisor) (a .v) (a .j) (c .before .pre .1 .1)
-    (high-part (a .v) (a .g .degree + a .j) (c .if1 .left)))
+    (high-part (a .v) (a .g .degree + a .j) (λ h. omega (arith, h, c .if1 .left))))
 
 pub cancel-spec : {M : Type 1} → statement M
 cancel-spec = tie.close (tie.spec (λ c. search needs) (λ c. search needs) (λ c. search needs) (λ c. search needs) returns returns-2)

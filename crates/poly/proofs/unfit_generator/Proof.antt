@@ -15,7 +15,7 @@ known : (c : tie.After-of) → c .of .result .degree ≡ degree (c .before .befo
 known c = ap (λ (g : Generator). g .degree) (c .of .ensures)
 
 returns : tie.Need-returns
-returns c = sym (even-unfit _ (c .if1 .taken))
+returns c = sym (even-unfit _ (omega (arith, c .if1 .taken)))
 
 returns-2 : tie.Need-returns-2
 returns-2 c = sym (narrow-unfit _ (omega (arith, known (c .before .before))))
@@ -23,7 +23,7 @@ returns-2 c = sym (narrow-unfit _ (omega (arith, known (c .before .before))))
 returns-3 : tie.Need-returns-3
 returns-3 c =
     let o = c .before .before .before in
-    ap (ltb greatestDegree) (known o) ∙ sym (odd-unfit _ (o .before .if1 .left) (omega (arith, known o)))
+    ap (ltb greatestDegree) (known o) ∙ sym (odd-unfit _ (λ h. omega (arith, h, o .before .if1 .left)) (omega (arith, known o)))
 
 pub unfit-generator-spec : {M : Type 1} → statement M
 unfit-generator-spec = tie.close (tie.spec returns (λ c κs. search needs) returns-2 returns-3)

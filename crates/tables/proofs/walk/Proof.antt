@@ -99,7 +99,7 @@ loop-again c =
     let g = e .args .g .coefficients in
     let one = fit-small (e .args .g) (e .pre .0 .fit) .positive in
     let t = turned (c .before) in (
-      not-returned n g (e .pre .0 .fit .divisor) one (c .before .before .loop .p) (c .before .before .loop .inv .0) (λ h. c .if1 .left (t .power-of ∙ h)),
+      not-returned n g (e .pre .0 .fit .divisor) one (c .before .before .loop .p) (c .before .before .loop .inv .0) (λ h. omega (arith, h, t .power-of, c .if1 .left)),
       t .power-of,
       t .size,
       t .walked,
@@ -116,7 +116,7 @@ returns c =
     let lent = e .pre .0 in
     let one = fit-small (e .args .g) (lent .fit) .positive in
     let t = turned (c .before) in
-    let end = returned n g (lent .fit .divisor) one (c .before .before .loop .p) (c .before .before .loop .inv .0) (sym (t .power-of) ∙ c .if1 .taken) in
+    let end = returned n g (lent .fit .divisor) one (c .before .before .loop .p) (c .before .before .loop .inv .0) (omega (arith, t .power-of, c .if1 .taken)) in
     (end, walked-all n g (lent .fit .divisor) one (lent .fit .most) _ (t .size ∙ lent .full) (rw end at (t .walked)))
 
 pub walk-spec : {M : Type 1} → statement M
