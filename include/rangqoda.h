@@ -1,41 +1,43 @@
 /*
  * rangqoda.h - error correction from CRCs, for packets of up to 512 bytes
  *
- * A packet ends in a CRC and may carry an Internet checksum (RFC 1071) over a
+ * A packet ends in a CRC and carries an Internet checksum (RFC 1071) over a
  * part of its bytes. The library takes remainders and seals packets, sums and
- * stamps them, lists every set of bit errors, up to a chosen number, that can
- * stand behind a remainder, and repairs a packet where the checksum leaves
- * just one of these sets.
+ * stamps them, lists all sets of at most so many bit errors that explain a
+ * remainder, and repairs a packet where the checksum leaves just one of them.
  *
  * Link with librangqoda.a (x86-64 Linux). Nothing is allocated, kept between
- * calls or shared: calls on different memory may run at the same time.
+ * calls or shared: calls on different memory may run at the same time. A page
+ * and a repair take less than 18 KiB of stack, the other calls less than 1 KiB.
  *
  *
  * Terms
  *
- *   generator  A number whose bit i is the coefficient of x^i. Its degree n is
- *              the place of its highest one. Accepted: odd, n from 3 to 16.
- *   length     The number L of bits of a packet: 8 times its bytes.
- *              Accepted: n < L <= 4096. The page call takes L itself, which
- *              need not be a multiple of 8.
- *   position   Position 0 is the lowest bit of the last byte; position L - 1
- *              is the highest bit of the first.
- *   remainder  That of the packet, as a binary polynomial (the bit at position
- *              p is the coefficient of x^p), divided by the generator. Also
- *              called the syndrome. A packet passes the CRC when it is 0. The
- *              CRC is the last n bits of the packet.
- *   pattern    A set of 0 to 4 positions below L. Its syndrome is the
- *              remainder of the sum of its powers of x.
- *   limit      The greatest number N of positions in a listed pattern, 1 to 4.
- *   list       For a generator, L, N and a syndrome s: every pattern of at
- *              most N positions with syndrome s. Fewer positions come first;
- *              equal counts are compared by smallest position, then the next,
- *              and so on, lower first. For s = 0 it has the empty pattern.
- *   sum        RFC 1071's: big-endian 16-bit words, a zero byte added to an odd
- *              end, carries folded back. No pseudo-header. No bytes sum to 0.
+ *   generator  A binary polynomial as a number: 2^i stands for x^i. Its degree n
+ *              is the exponent of its leading term. Accepted: odd ones with n
+ *              from 3 to 16.
+ *   length     L, the bits of a packet, 8 for each byte. Accepted: greater than
+ *              n, and at most 4096. The page call is told L itself, and takes
+ *              any number of bits.
+ *   position   Bits are counted from the packet's end: 0 is the lowest bit of
+ *              its last byte, and L - 1 the highest bit of its first.
+ *   remainder  What is left when the packet, read as a binary polynomial with
+ *              the bit at position p as the coefficient of x^p, is divided by
+ *              the generator. Also called the syndrome. A packet passes the
+ *              CRC where nothing is left. The CRC is its last n bits.
+ *   pattern    A set of at most 4 positions: bits that may have flipped. Its
+ *              syndrome is what is left of the sum of their powers of x.
+ *   limit      N, the most positions that a listed pattern may have: 1 to 4.
+ *   list       All patterns with a given syndrome, below L and with at most N
+ *              positions. Small patterns stand before large ones; those of one
+ *              size go by their smallest positions, the lower first, then by
+ *              the next smallest, and so on.
+ *   sum        RFC 1071's: bytes as 16-bit numbers, high byte first, with a
+ *              zero behind an odd one, and carries added back in. There is no
+ *              pseudo-header. The sum of nothing is 0.
  *   range      The bytes [start, end) of a packet. Accepted: start < end and
- *              8 * end <= L - n, so that it does not reach into the CRC. A
- *              range passes when its sum is FFFFh.
+ *              8 * end <= L - n, so that it has no bit of the CRC. A range
+ *              passes where its sum is FFFFh.
  *
  *
  * Answers
@@ -43,10 +45,11 @@
  * Every call but rangqoda_sum and rangqoda_publish returns 0 when it is
  * accepted, and otherwise the number of the lowest condition below that
  * applies, of those that are named for the call. A call that is refused
- * changes no memory. Nothing has to be checked beforehand: any number and any
- * length may be passed, and every call ends.
+ * changes no memory. Nothing has to be checked beforehand, as long as each
+ * pointer is good for the number of elements passed with it: whatever the
+ * numbers and lengths are, the call judges them, and it ends.
  *
- *    1  generator even, or of a degree outside 3 to 16
+ *    1  an even generator, or one whose degree is not 3 to 16
  *    2  L <= n, or L > 4096
  *    3  limit 0 or above 4
  *    4  syndrome 2^n or more
@@ -57,7 +60,8 @@
  *    8  output: of a page, below 9 bytes; of a repair, not as long as the
  *       packet, or a verdict not of RANGQODA_VERDICT_BYTES
  *    9  range not accepted
- *   10  field not wholly in the range, or at an odd distance from its start
+ *   10  field not whole in the range, or not an even number of bytes from its
+ *       start
  *
  *
  * Memory
@@ -70,6 +74,62 @@
  * No pointer may be null, not even that of an empty slice: a slice of length 0
  * is neither read nor written, so any pointer that is not null and is aligned
  * for its type will do for it. (Rust's empty slices are such pointers.)
+ *
+ *
+ * Which CRC this is
+ *
+ * The highest bit comes first, nothing is reflected, the register starts at 0,
+ * and nothing is added to it at the end (initial and final values 0). With
+ * RANGQODA_CCITT that is CRC-16/XMODEM of the catalogues (check value 31C3h, also called CRC-16/ACORN): the remainder of
+ * a message and two zero bytes is its CRC, and that of a message and its CRC
+ * is 0. Others that go by "CCITT" have the same generator and are not it:
+ * CRC-16/IBM-3740 ("CCITT-FALSE") starts at FFFFh, CRC-16/KERMIT
+ * ("CCITT-TRUE") and CRC-16/IBM-SDLC (X.25) are reflected. A packet that was
+ * sealed by one of these has some other remainder here, and would be taken
+ * for damaged: these calls are not for it.
+ *
+ *
+ * What a repair does not tell
+ *
+ * RANGQODA_REPAIRED says that just one set of at most N bit errors leads to a
+ * packet that passes both checks. If at most N bits flipped, that is the
+ * packet sent. If more did, it may be a wrong packet, and nothing in the
+ * verdict shows it.
+ *
+ * Of packets that are noise at most this part is repaired, on average:
+ *
+ *   (sets of at most N positions among L) / 2^n / 65535
+ *
+ * With RANGQODA_CCITT and 64 bytes (L = 512) that is 1 in 33,000 at N = 2, 1
+ * in 190 at N = 3 and 2 in 3 at N = 4. Counted: 18 of 400,000 at N = 2, 66 of
+ * 20,000 at N = 3, 12 of 500 at N = 4. It grows about with L^N.
+ *
+ * Packets with a few more flips than N are worse than noise, since they lie
+ * close to others that pass: of 64 bytes with four flipped bits 288 of 100,000
+ * were falsely repaired at N = 2, and with five 169 of 2,000 at N = 3. And a
+ * greater N repairs less, since several sets pass more often: a single flip in
+ * 64 bytes is always repaired at N = 2, and once in nine times at N = 3.
+ *
+ * So choose the least N that the channel needs, publish it beside the number
+ * of repairs, and hold these for doubtful where many verdicts are
+ * RANGQODA_NONE.
+ *
+ *
+ * How long it takes
+ *
+ * Each page and each repair verifies both tables: 0.05 ms for degree 16, and
+ * half as long with each degree less. Beyond that a repair, or a whole list,
+ * takes time as L^(N-1), and with the length of the list, about L^N/(N! 2^n):
+ * at small degrees and N of 3 or 4 that can be hours. In orders of magnitude,
+ * with RANGQODA_CCITT:
+ *
+ *               N = 1     N = 2     N = 3     N = 4
+ *    16 bytes   0.1 ms    0.1 ms    0.1 ms    0.5 ms
+ *    64 bytes   0.1 ms    0.1 ms    0.3 ms    0.03 s
+ *   512 bytes   0.1 ms    0.1 ms    0.03 s    30 s
+ *
+ * A call cannot be interrupted. Small pages do not bound its time: a page
+ * searches until its next record or the end of the list.
  *
  *
  * Encodings: every number of more than one byte has its high byte first
@@ -111,7 +171,7 @@ extern "C" {
 
 /* Generators with names. */
 #define RANGQODA_FIVE 53u         /* x^5 + x^4 + x^2 + 1 */
-#define RANGQODA_CCITT 0x11021u   /* x^16 + x^12 + x^5 + 1 */
+#define RANGQODA_CCITT 0x11021u   /* x^16 + x^12 + x^5 + 1: CRC-16/XMODEM */
 
 /* The numbers of the conditions above. */
 #define RANGQODA_ACCEPTED 0u
@@ -129,14 +189,16 @@ extern "C" {
 /* The first-position table's entry where no power of x leaves the remainder. */
 #define RANGQODA_NO_POSITION 65535u
 
-/* The longest record, and so the shortest output that a page accepts. */
-#define RANGQODA_RECORD_BYTES 9
+/* The most positions of a pattern; the bytes of its record, which is the
+   longest, and so the shortest output that a page accepts; those of a mark. */
+#define RANGQODA_MOST_POSITIONS 4
+#define RANGQODA_RECORD_BYTES (1 + 2 * RANGQODA_MOST_POSITIONS)
 
-#define RANGQODA_MARK_BYTES 9
+#define RANGQODA_MARK_BYTES RANGQODA_RECORD_BYTES
 #define RANGQODA_MARK_START 0xFEu
 #define RANGQODA_MARK_ENDED 0xFFu
 
-#define RANGQODA_VERDICT_BYTES 18
+#define RANGQODA_VERDICT_BYTES (9 + RANGQODA_RECORD_BYTES)
 #define RANGQODA_INTACT 0u
 #define RANGQODA_REPAIRED 1u
 #define RANGQODA_SEVERAL 2u
@@ -171,9 +233,9 @@ uint32_t rangqoda_seal(uint64_t generator,
 uint16_t rangqoda_sum(const uint8_t *bytes, size_t len);
 
 /*
- * Stamps a packet: writes FFFFh minus the sum of the range [start, end), taken
- * with the field as zero, into the two bytes at field, high byte first. The
- * range passes then.
+ * Stamps a packet, so that the range [start, end) passes: the two bytes at
+ * field become what the sum of the range, taken with these two as zero, lacks
+ * to FFFFh, high byte first.
  *
  * start, end and field are places of bytes in the packet, counted from 0. A
  * packet that is to be sealed too is stamped first.
@@ -187,12 +249,12 @@ uint32_t rangqoda_stamp(uint64_t generator,
 /*
  * Builds the two tables of a generator, each of exactly 2^n entries.
  *
- *   step[s]   the one t below 2^n with t times x leaving remainder s
- *   first[s]  the least p with x^p leaving remainder s, or
- *             RANGQODA_NO_POSITION where there is none; so also first[0]
+ *   step[s]   that t below 2^n whose product with x leaves s
+ *   first[s]  the smallest p such that x^p leaves s, or RANGQODA_NO_POSITION
+ *             where no power does, as for s = 0
  *
  * Refused by 1, 5. Writes every entry of both tables, and into *period the
- * least c of at least 1 with x^c leaving remainder 1.
+ * smallest positive c such that x^c leaves 1.
  */
 uint32_t rangqoda_tables(uint64_t generator,
                          uint16_t *step, size_t step_len,
@@ -212,12 +274,12 @@ uint32_t rangqoda_tables(uint64_t generator,
  *   output    the records; bytes beyond those used stay as they were
  *   *used     the number of bytes that the records take
  *   *written  the number of records
- *   mark      the next mark: ended exactly when no listed pattern follows,
- *             else after the last pattern written
+ *   mark      the next mark: ended if no listed pattern is left to follow, and
+ *             otherwise after the last one written
  *
- * From the mark ended nothing is written to output, and the mark stays so. A
- * page from any other mark writes a record unless no listed pattern follows.
- * So a list is read whole by
+ * From the mark ended nothing is written to output, and the mark stays. From
+ * any other at least one record is, as long as one follows. So a list is read
+ * whole by
  *
  *   uint8_t mark[RANGQODA_MARK_BYTES] = { RANGQODA_MARK_START };
  *   while (mark[0] != RANGQODA_MARK_ENDED) {
@@ -241,11 +303,11 @@ uint32_t rangqoda_page(uint64_t generator, size_t length, size_t limit,
  *
  *   RANGQODA_INTACT    the remainder is 0 and the range passes
  *
- * Otherwise the list for the packet's remainder and the limit is taken. A
- * pattern of it passes if the packet with those bits flipped has a passing
- * range.
+ * Otherwise the list for the packet's length, its remainder and the limit is
+ * taken. A pattern of it passes if flipping those bits makes the range pass.
  *
- *   RANGQODA_REPAIRED  just one passes; output holds the flipped packet
+ *   RANGQODA_REPAIRED  just one passes; output holds the flipped packet (see
+ *                      "What a repair does not tell" above)
  *   RANGQODA_SEVERAL   more than one passes; the verdict has their number
  *   RANGQODA_NONE      none passes
  *

@@ -8,9 +8,10 @@ Python's integers. Nothing here is taken from the library. Run it from anywhere:
 """
 from pathlib import Path
 
+from reference import CCITT, FIVE, degree_of, divide, filled, unfit_generator, unfit_length
+
 TARGET = Path(__file__).resolve().parent.parent / "crates" / "checksum_test" / "stdout"
 
-FIVE, CCITT = 53, 0x11021
 PLACES = [0, 1, 2, 3, 4, 5, 6, 7, 2**61, 2**63 - 1, 2**64 - 2, 2**64 - 1]
 
 out = []
@@ -23,31 +24,14 @@ def sum_of(data):
     return value and (value % 0xFFFF or 0xFFFF)
 
 
-def divide(value, generator):
-    """The remainder of a binary polynomial."""
-    while value.bit_length() >= generator.bit_length():
-        value ^= generator << (value.bit_length() - generator.bit_length())
-    return value
-
-
-def filled(length, seed):
-    """Bytes from the linear congruential generator of document 02."""
-    data = bytearray()
-    for _ in range(length):
-        seed = (1664525 * seed + 1013904223) % 2**32
-        data.append(seed >> 24)
-    return data
-
-
 def stamp(generator, a, e, field, packet):
     """The number of the first condition that applies, or 0 with the packet stamped."""
-    degree = generator.bit_length() - 1
     length = 8 * len(packet)
-    if generator % 2 == 0 or not 3 <= degree <= 16:
+    if unfit_generator(generator):
         return 1
-    if not degree < length <= 4096:
+    if unfit_length(generator, length):
         return 2
-    if not (a < e and 8 * e <= length - degree):
+    if not (a < e and 8 * e <= length - degree_of(generator)):
         return 9
     if not a <= field <= e - 2 or (field - a) % 2:
         return 10
@@ -115,10 +99,10 @@ out.append(f"{stamp(FIVE, 0, 2, 0, bytearray(513)):x}")
 show_places(FIVE)
 show_places(CCITT)
 
-most = filled(512, 9)
+most = bytearray(filled(512, 9))
 show_both(FIVE, 0, 511, 508, most)
 show_both(CCITT, 1, 510, 507, most)
-nine = filled(9, 10)
+nine = bytearray(filled(9, 10))
 show_both(CCITT, 3, 6, 3, nine)
 show_both(9, 0, 8, 6, nine)
 out.append(nine.hex())

@@ -1,53 +1,26 @@
 #!/usr/bin/env python3
 """Writes the vectors of the program packet_test: crates/packet_test/stdin, and the stdout that it is held to.
 
-The answers come from long division on Python's integers, by the rules of document 01, and from the published check
+The answers come from long division on Python's integers, by docs/RULES.md, and from the published check
 values of crc-check-values.tsv beside this file. Nothing here is taken from the library. Run it from anywhere:
 
     python3 tests/packet_vectors.py
 """
 from pathlib import Path
 
+from reference import CCITT, FIVE, degree_of, divide, filled, fnv, unfit_generator, unfit_length
+
 HERE = Path(__file__).resolve().parent
 TARGET = HERE.parent / "crates" / "packet_test"
 
-FIVE, CCITT, ATM = 53, 0x11021, 0x633  # degrees 5, 16 and 10
-
-
-def divide(value, generator):
-    """The remainder of a binary polynomial: the generator is taken away below each one that is too high."""
-    degree = generator.bit_length() - 1
-    for place in range(value.bit_length() - 1, degree - 1, -1):
-        if value >> place & 1:
-            value ^= generator << (place - degree)
-    return value
+ATM = 0x633  # degree 10
 
 
 def refusal(generator, packet):
-    """The first condition of document 01's table that turns down remainder and seal, or 0."""
-    degree = generator.bit_length() - 1
-    if generator % 2 == 0 or not 3 <= degree <= 16:
+    """The first condition that refuses remainder and seal, or 0."""
+    if unfit_generator(generator):
         return 1
-    if not degree < 8 * len(packet) <= 4096:
-        return 2
-    return 0
-
-
-def filled(length, seed):
-    """Bytes from the linear congruential generator of document 02."""
-    out = []
-    for _ in range(length):
-        seed = (1664525 * seed + 1013904223) % 2**32
-        out.append(seed >> 24)
-    return bytes(out)
-
-
-def fnv(packet):
-    """The 32-bit FNV-1a hash."""
-    h = 2166136261
-    for byte in packet:
-        h = (h ^ byte) * 16777619 % 2**32
-    return h
+    return 2 if unfit_length(generator, 8 * len(packet)) else 0
 
 
 def mirrored(value, width):
@@ -66,7 +39,7 @@ def answers(generator, packet, published=None):
         assert remainder == published, (generator, packet.hex(), remainder, published)
         remainder = published
     sealed = value ^ remainder
-    assert sealed >> (generator.bit_length() - 1) == value >> (generator.bit_length() - 1)
+    assert sealed >> (degree_of(generator)) == value >> (degree_of(generator))
     assert divide(sealed, generator) == 0
     return f"{remainder} sealed {fnv(sealed.to_bytes(len(packet), 'big'))} 0"
 
@@ -108,7 +81,7 @@ def catalogue():
 
 
 def written_out():
-    """Document 01's sums worked by hand that are remainders, the bits with zeros in front to whole bytes."""
+    """Rows worked by hand that are remainders, the bits with zeros in front to whole bytes."""
     explicit(9, bytes([0b1, 0b01110000]), 3)
     explicit(11, bytes([0b1100010]), 0)
     explicit(11, bytes([0b1101010]), 3)

@@ -3,7 +3,7 @@
 
 The lists are found by brute force: every combination of positions, with the remainder of its polynomial by long division
 on Python's integers (above 64 bits the remainders of the single powers are added up, since there are millions of sets).
-Pages, refusals and periods follow document 01's text. Nothing here is taken from the library. Run it from anywhere:
+Pages and refusals follow docs/RULES.md. Nothing here is taken from the library. Run it from anywhere:
 
     python3 tests/pages_vectors.py
 """
@@ -11,18 +11,12 @@ from functools import lru_cache
 from itertools import combinations, product
 from pathlib import Path
 
+from reference import CCITT, FIVE, degree_of, divide, filled, fnv, unfit_generator, unfit_length
+
 TARGET = Path(__file__).resolve().parent.parent / "crates" / "pages_test"
 
-FIVE, CCITT = 53, 0x11021
 START, ENDED = "start", "ended"
 LONG = 10**6  # more calls than any list here has records
-
-
-def divide(value, generator):
-    """The remainder of a binary polynomial."""
-    while value.bit_length() >= generator.bit_length():
-        value ^= generator << (value.bit_length() - generator.bit_length())
-    return value
 
 
 @lru_cache(maxsize=1)
@@ -52,45 +46,12 @@ def record(pattern):
     return bytes([len(pattern)]) + b"".join(p.to_bytes(2, "big") for p in pattern)
 
 
-@lru_cache(maxsize=None)
-def filled(length):
-    """Bytes from the linear congruential generator of document 02, with the seed 1."""
-    seed, out = 1, []
-    for _ in range(length):
-        seed = (1664525 * seed + 1013904223) % 2**32
-        out.append(seed >> 24)
-    return bytes(out)
-
-
-def fnv(h, data):
-    """The 32-bit FNV-1a hash, carried on."""
-    for byte in data:
-        h = (h ^ byte) * 16777619 % 2**32
-    return h
-
-
-def unfit_generator(generator):
-    return generator % 2 == 0 or not 3 <= generator.bit_length() - 1 <= 16
-
-
-def period(generator):
-    return next(c for c in range(1, 2**16) if divide(1 << c, generator) == 1) if generator < 2**12 else long_period(generator)
-
-
-def long_period(generator):
-    power, c = 2, 1
-    while power != 1:
-        power, c = divide(power << 1, generator), c + 1
-    return c
-
-
 class Group:
     """Tables of a generator, with a change, of which so many entries are lent."""
 
     def __init__(self, generator, size=None, change=(0, 0, 0), lent=None):
         self.generator, self.change = generator, change
-        self.right = 2 ** (generator.bit_length() - 1)
-        self.size = self.right if size is None else size
+        self.size = 2 ** degree_of(generator) if size is None else size
         self.lent = (self.size, self.size) if lent is None else lent
         self.cases = []
         groups.append(self)
@@ -99,17 +60,12 @@ class Group:
         high, low = divmod(self.generator, 2**32)
         return " ".join(map(str, (high, low, self.size, *self.change, *self.lent, len(self.cases))))
 
-    def first_line(self):
-        if unfit_generator(self.generator):
-            return "refused 1"
-        return "refused 5" if self.size != self.right else str(period(self.generator))
-
     def refusal(self, generator, bits, limit, syndrome, mark, room):
         """The first condition that applies, or 0."""
-        degree = generator.bit_length() - 1
+        degree = degree_of(generator)
         if unfit_generator(generator):
             return 1
-        if not degree < bits <= 4096:
+        if unfit_length(generator, bits):
             return 2
         if not 1 <= limit <= 4:
             return 3
@@ -150,8 +106,8 @@ class Group:
                         fit += 1
                     records += fit
                     reached = ENDED if fit == len(rest) else rest[fit - 1]
-                used = fnv(used, page)
-                beyond = fnv(beyond, filled(size)[len(page) :])
+                used = fnv(page, used)
+                beyond = fnv(filled(size, 1)[len(page) :], beyond)
                 if reached == ENDED:
                     ended += 1
                     break
@@ -167,7 +123,7 @@ groups = []
 
 
 def worked_by_hand():
-    """Document 01's facts about lists, held to its own text first."""
+    """Facts about lists from docs/RULES.md, held to its own text first."""
     assert listed(11, 5, 1, 6) == [(4,)]
     assert listed(FIVE, 15, 2, 1) == [(0,)] and listed(FIVE, 16, 2, 1) == [(0,), (15,)]
     assert listed(FIVE, 7, 2, 3) == [(0, 1)] and listed(FIVE, 8, 2, 3) == [(0, 1), (3, 7)]
@@ -191,7 +147,7 @@ def every_small_list():
         for limit in (1, 2, 3, 4):
             five.add(bits, limit, 0, span=32)
     for generator in (9, 11, 13, 15, 19, 23, 31, 37, 47, 51, 67, 73, 99, 131, 137, 189, 285, 263, 257, 297):
-        degree = generator.bit_length() - 1
+        degree = degree_of(generator)
         group = Group(generator)
         for bits, limit in ((degree + 1, 4), (degree + 2, 3), (13, 4), (16, 4), (19, 3), (27, 2), (33, 1)):
             group.add(bits, limit, 0, span=2**degree)
@@ -301,7 +257,7 @@ given = [str(len(groups))]
 expected = []
 for group in groups:
     given += [group.head(), *(line for line, _ in group.cases)]
-    expected += [group.first_line(), *(line for _, line in group.cases)]
+    expected += [line for _, line in group.cases]
 text = "\n".join(given) + "\n"
 assert len(text) < 65536, len(text)
 TARGET.joinpath("stdin").write_text(text)

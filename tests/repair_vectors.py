@@ -1,10 +1,10 @@
 #!/usr/bin/env python3
 """Writes the vectors of the program repair_test: crates/repair_test/stdin, and the stdout that it is held to.
 
-The verdicts are found by brute force, by the rules of document 01: every set of at most N positions is flipped whose
-remainder, by long division on Python's integers, is the packet's, and the range is summed by RFC 1071's definition. Only for
-packets of 64 and 512 bytes is the last position looked up by its power's remainder instead of tried. Nothing here is taken from
-the library. Run it from anywhere:
+The verdicts are found by brute force, by docs/RULES.md: every set of at most N positions is flipped whose remainder, by
+long division on Python's integers, is the packet's, and the range is summed as RFC 1071 says. Only for packets of 64 and 512
+bytes is the last position looked up by its power's remainder instead of tried. Nothing here is taken from the library. Run it
+from anywhere:
 
     python3 tests/repair_vectors.py
 """
@@ -13,32 +13,13 @@ from itertools import combinations, product
 from pathlib import Path
 from random import Random
 
+from reference import CCITT, FIVE, checksum, degree_of, divide, filled, fnv, unfit_generator, unfit_length
+
 TARGET = Path(__file__).resolve().parent.parent / "crates" / "repair_test"
-FIVE, CCITT, THREE, EIGHT = 53, 0x11021, 11, 0x107  # degrees 5, 16, 3 and 8
+THREE, EIGHT = 11, 0x107  # degrees 3 and 8
 SMALL = 48  # bits of the longest packet whose every combination is tried
 
 random = Random(1071)
-
-
-def degree_of(generator):
-    return generator.bit_length() - 1
-
-
-def divide(value, generator):
-    """The remainder of a binary polynomial: the generator is taken away below each one that is too high."""
-    for place in range(value.bit_length() - 1, degree_of(generator) - 1, -1):
-        if value >> place & 1:
-            value ^= generator << (place - degree_of(generator))
-    return value
-
-
-def checksum(data):
-    """RFC 1071: big-endian words, a zero byte at an odd end, the carries folded back."""
-    data += bytes(len(data) % 2)
-    total = sum(data[i] * 256 + data[i + 1] for i in range(0, len(data), 2))
-    while total > 0xFFFF:
-        total = total % 0x10000 + total // 0x10000
-    return total
 
 
 def flip(packet, positions):
@@ -87,25 +68,8 @@ assert sorted(looked_up(FIVE, 24, 3, 9)) == sorted(every_pattern(FIVE, 24, 3)[9]
 assert sorted(looked_up(CCITT, 40, 3, 0x1021)) == sorted(every_pattern(CCITT, 40, 3)[0x1021])
 
 
-def fnv(data):
-    """The 32-bit FNV-1a hash."""
-    h = 2166136261
-    for byte in data:
-        h = (h ^ byte) * 16777619 % 2**32
-    return h
-
-
-def filled(length, seed=1):
-    """Bytes from the linear congruential generator of document 02."""
-    out = []
-    for _ in range(length):
-        seed = (1664525 * seed + 1013904223) % 2**32
-        out.append(seed >> 24)
-    return bytes(out)
-
-
 def verdict(generator, a, e, limit, packet):
-    """Document 01's verdict: its kind, and the patterns that pass."""
+    """The verdict: its kind, and the patterns that pass."""
     bits = 8 * len(packet)
     syndrome = divide(int.from_bytes(packet, "big"), generator)
     if syndrome == 0 and checksum(packet[a:e]) == 0xFFFF:
@@ -132,12 +96,12 @@ class Group:
         return " ".join(map(str, [0, self.generator, self.size, *self.change, *self.lent, len(self.given)]))
 
     def refusal(self, generator, a, e, limit, packet, room):
-        """The first condition of document 01's table that turns down a repair, or 0."""
+        """The first condition that refuses a repair, or 0."""
         degree = degree_of(generator)
         bits = 8 * len(packet)
-        if generator % 2 == 0 or not 3 <= degree <= 16:
+        if unfit_generator(generator):
             return 1
-        if not degree < bits <= 4096:
+        if unfit_length(generator, bits):
             return 2
         if not 1 <= limit <= 4:
             return 3
@@ -151,7 +115,7 @@ class Group:
 
     def line(self, generator, a, e, limit, packet, room):
         """What the program prints for one call."""
-        before = filled(room)
+        before = filled(room, 1)
         number = self.refusal(generator, a, e, limit, packet, room)
         if number:
             return f"refused {number} {fnv(before)}"
@@ -195,7 +159,7 @@ kinds = {}
 
 
 def worked_by_hand():
-    """Document 01's rows about repair, held to its own text first."""
+    """Rows worked by hand about repair, held to their own text first."""
     assert verdict(FIVE, 0, 2, 1, bytes.fromhex("FFFF05"))[0] == "intact"
     assert verdict(FIVE, 0, 2, 1, bytes.fromhex("7FFF05")) == ("repaired", [(23,)])
     assert verdict(FIVE, 0, 2, 1, bytes.fromhex("FFFF06"))[0] == "none"

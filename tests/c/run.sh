@@ -1,6 +1,6 @@
 #!/bin/sh
-# Compiles include/rangqoda.h and smoke.c as C11 and as C++17, with every warning an error, links them with the archive
-# and runs them: tests/c/run.sh [ARCHIVE]. The archive is target/staticlib/librangqoda.a unless another is named.
+# Compiles include/rangqoda.h and smoke.c as C11 and as C++17 and the example as C11, with every warning an error, links them
+# with the archive and runs them: tests/c/run.sh [ARCHIVE]. The archive is target/staticlib/librangqoda.a unless another is named.
 set -eu
 root=$(cd "$(dirname "$0")/../.." && pwd)
 archive=$(realpath -m "${1:-$root/target/staticlib/librangqoda.a}")
@@ -19,6 +19,25 @@ echo '#include "rangqoda.h"' | ${CXX:-c++} -std=c++17 $strict -x c++ -c - -o "$w
 
 ${CC:-cc} -std=c11 $strict -O2 tests/c/smoke.c "$archive" -o "$work/smoke-c"
 ${CXX:-c++} -std=c++17 $strict -O2 -x c++ tests/c/smoke.c -x none "$archive" -o "$work/smoke-c++"
+# The example repairs a packet in which two bits flipped, and publishes nothing of one in which three did.
+${CC:-cc} -std=c11 $strict -O2 bindings/c/repair.c "$archive" -o "$work/repair"
+sent='63 68 20 37 20 62 61 64 67 65 20 32 73 02 0C 82'
+printf 'ch 3 badg%% 2s\002\014\202' >"$work/two"
+printf 'ch 3 badg%% 2s\002\015\202' >"$work/three"
+example() {
+    status=0
+    "$work/repair" "$1" >"$work/said" 2>"$work/complaint" || status=$?
+    if [ "$status" != "$2" ] || [ "$(tail -n 1 "$work/said")" != "$3" ]; then
+        echo "the example returned $status for $1, and said:" >&2
+        cat "$work/said" "$work/complaint" >&2
+        exit 1
+    fi
+}
+example "$work/two" 0 "$sent"
+example "$work/three" 1 'publish nothing: no two bit errors explain it'
+example "$work/no such file" 2 ''
+echo 'C example: as it should be'
+
 printf 'C11: '
 "$work/smoke-c"
 printf 'C++17: '

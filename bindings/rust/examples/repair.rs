@@ -7,7 +7,7 @@ fn show(what: &str, packet: &[u8]) {
     println!("{what:<9} {}", bytes.join(" "));
 }
 
-fn main() -> Result<(), Refusal> {
+fn run() -> Result<(), Refusal> {
     // Twelve bytes of data, two of checksum at byte 12, two of CRC. The checksum is over all but the CRC.
     let mut sent = *b"ch 7 badge 2\0\0\0\0";
     let range = 0..14;
@@ -36,4 +36,11 @@ fn main() -> Result<(), Refusal> {
         }
     }
     Ok(())
+}
+
+fn main() {
+    if let Err(refusal) = run() {
+        eprintln!("{refusal}");
+        std::process::exit(1);
+    }
 }

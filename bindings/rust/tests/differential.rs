@@ -24,7 +24,7 @@ fn mark_bytes(mark: &Mark) -> Vec<u8> {
     bytes
 }
 
-/// The mark of some bytes. Bytes that are none are turned down as an unfit pattern is, by 7.
+/// The mark of some bytes. Bytes that are none are refused as an unfit pattern is, by 7.
 fn read_mark(bytes: &[u8]) -> Mark {
     if bytes.len() != MARK_BYTES {
         return Mark::After(vec![0, 0]);
@@ -569,7 +569,7 @@ fn page_from_every_mark_of_a_short_length() {
     }
 }
 
-/// Demand 3's sequence: one list, one mark that only accepted calls move, tables and outputs that differ from call to
+/// A sequence of page calls: one list, one mark that only accepted calls move, tables and outputs that differ from call to
 /// call, refused calls among them.
 #[test]
 fn pages_joined_are_the_list() {

@@ -1,3 +1,4 @@
 pub mod Cases
+pub mod ListLaws
 pub mod JudgeLaws
 pub mod XorLaws

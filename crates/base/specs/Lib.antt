@@ -1,3 +1,4 @@
 pub mod Refusals
 pub mod Outcome
 pub mod Lists
+pub mod Judged

@@ -1,4 +1,5 @@
 -- Statements about lists: a member, a fact of every member, strictly ascending numbers.
+use Prim.Native.Nat.{ℕ, suc, _≤_, _<_}
 use mathlib.Core.Path.{_≡_}
 use mathlib.Core.List.{List, [], _∷_}
 
@@ -10,8 +11,7 @@ pub data All {A : Type 0} (P : A → Type 0) : List A → Type 0 where
   none : All P []
   each : {x : A} {xs : List A} → P x → All P xs → All P (x ∷ xs)
 
--- each element stands in R to its successor
-pub data Chain {A : Type 0} (R : A → A → Type 0) : List A → Type 0 where
-  empty : Chain R []
-  single : {x : A} → Chain R (x ∷ [])
-  link : {x y : A} {xs : List A} → R x y → Chain R (y ∷ xs) → Chain R (x ∷ y ∷ xs)
+-- strictly ascending numbers, from `from` on and below l
+pub data Ascending (l : ℕ) : ℕ → List ℕ → Type 0 where
+  ends : {from : ℕ} → Ascending l from []
+  next : {from p : ℕ} {ps : List ℕ} → from ≤ p → p < l → Ascending l (suc p) ps → Ascending l from (p ∷ ps)

@@ -1,4 +1,4 @@
--- What a call answers, and how it comes to be turned down: the conditions named for it are tested in their order,
+-- What a call answers, and how it comes to be refused: the conditions named for it are tested in their order,
 -- and the first that applies decides.
 use Prim.Native.Nat.{ℕ}
 use mathlib.Core.Bool.{Bool, true, false}

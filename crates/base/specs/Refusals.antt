@@ -1,4 +1,4 @@
--- The number that document 01's table gives to each condition of refusal.
+-- The number of each condition of refusal (docs/RULES.md, section 7).
 use Prim.Native.Nat.{ℕ}
 use Rattle.base.specs.declared.Refusal.{Refusal}
 use Rattle.base.specs.declared.Refusal.the-variants.{Generator, Length, Limit, Syndrome, TableLength, TableEntry, Mark, Output, Range, Field}

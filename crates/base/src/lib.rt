@@ -1,4 +1,4 @@
-// What every layer shares: the reasons for which a call is turned down.
+// What every layer shares: the reasons for which a call is refused, and what the judgement on a call says.
 ghost use mathlib.Core.Path.{_≡_};
 ghost use Rattle.base.specs.Refusals.{number};
 
@@ -16,8 +16,14 @@ pub enum Refusal {
     Field,
 }
 
+// What testing a call's conditions in their order comes to.
+pub enum Judgement {
+    Passed,
+    Refused(Refusal),
+}
+
 // The number of a refusal.
-pub fn number_of(refusal: Refusal) -> u64
+pub fn number_of(refusal: Refusal) -> u32
     ensures { λ r. ⌜ r ≡ number refusal ⌝ }
 {
     match refusal {

@@ -3,5 +3,4 @@ pub mod RangeLaws
 pub mod WeightLaws
 pub mod ConditionLaws
 pub mod StampLaws
-pub mod CallLaws
-pub mod StampSealLaws
+pub mod SealedRangeLaws

@@ -11,8 +11,9 @@ use lib.Seq.{getD-take, getD-drop, drop-set-lt, drop-set-add, take-set-le, take-
 use Rattle.base.specs.Outcome.{pick}
 use Rattle.base.proofs.Cases.{by-test, by-order}
 use Rattle.packet.specs.Packet.{Bytes}
-use Rattle.checksum.specs.Checksum.{range, passes}
-use Rattle.checksum.specs.Totals.{total, multiple, place, share}
+use Rattle.checksum.specs.Checksum.{total, range, passes}
+use Rattle.checksum.specs.Totals.{multiple, wordWeight, share}
+use Rattle.checksum.specs.declared.Check.{Check}
 use Rattle.checksum.proofs.SumLaws.{total-one, total-two, sum-multiple}
 
 -- the elements of a part are bytes, and so is what is written
@@ -36,48 +37,48 @@ unfolding range
 range-bytes a e s b = take-bytes (e - a) (drop a s) (drop-bytes a s b)
 
 -- the second check, decided from the plain total
-pub passes-total : (a e : ℕ) (s : List ℕ) → Bytes s → passes a e s ≡ multiple (total (range a e s))
+pub passes-total : (k : Check) (s : List ℕ) → Bytes s → passes k s ≡ multiple (total (range (k .from) (k .to) s))
 unfolding passes
-passes-total a e s b = sum-multiple (range a e s) (range-bytes a e s b)
+passes-total k s b = sum-multiple (range (k .from) (k .to) s) (range-bytes (k .from) (k .to) s b)
 
 pub range-length : (a e : ℕ) (s : List ℕ) → e ≤ length s → length (range a e s) ≡ e - a
 unfolding range
 range-length a e s h = simp (length-take, length-drop) (omega arith)
 
-pub place-even : (i : ℕ) → i % 2 ≡ 0 → place i ≡ 256
-unfolding place
-place-even i h = simp (eq-eqb _ _ h)
+pub wordWeight-even : (i : ℕ) → i % 2 ≡ 0 → wordWeight i ≡ 256
+unfolding wordWeight
+wordWeight-even i h = simp (eq-eqb _ _ h)
 
-pub place-odd : (i : ℕ) → i % 2 ≡ 1 → place i ≡ 1
-unfolding place
-place-odd i h = simp (ne-eqb (i % 2) 0 (omega arith))
+pub wordWeight-odd : (i : ℕ) → i % 2 ≡ 1 → wordWeight i ≡ 1
+unfolding wordWeight
+wordWeight-odd i h = simp (ne-eqb (i % 2) 0 (omega arith))
 
-place-two : (i : ℕ) → place (suc (suc i)) ≡ place i
-unfolding place
-place-two i =
+wordWeight-two : (i : ℕ) → wordWeight (suc (suc i)) ≡ wordWeight i
+unfolding wordWeight
+wordWeight-two i =
     let e : suc (suc i) % 2 ≡ i % 2 = omega arith in
     ap (λ (x : ℕ). pick (eqb x 0) 256 1) e
 
 -- one byte changed, among all
-pub total-set : (s : List ℕ) (i v : ℕ) → i < length s → total (set s i v) + place i * getD s i 0 ≡ total s + place i * v
+pub total-set : (s : List ℕ) (i v : ℕ) → i < length s → total (set s i v) + wordWeight i * getD s i 0 ≡ total s + wordWeight i * v
 total-set [] i v h = absurd (omega arith)
-total-set (x ∷ []) zero v h = rw (place-even 0 refl) (omega (arith, total-one v, total-one x))
+total-set (x ∷ []) zero v h = rw (wordWeight-even 0 refl) (omega (arith, total-one v, total-one x))
 total-set (x ∷ []) (suc i) v h = absurd (omega arith)
-total-set (x ∷ y ∷ s) zero v h = rw (place-even 0 refl) (omega (arith, total-two v y s, total-two x y s))
-total-set (x ∷ y ∷ s) (suc zero) v h = rw (place-odd 1 refl) (omega (arith, total-two x v s, total-two x y s))
+total-set (x ∷ y ∷ s) zero v h = rw (wordWeight-even 0 refl) (omega (arith, total-two v y s, total-two x y s))
+total-set (x ∷ y ∷ s) (suc zero) v h = rw (wordWeight-odd 1 refl) (omega (arith, total-two x v s, total-two x y s))
 total-set (x ∷ y ∷ s) (suc (suc i)) v h =
-    rw (place-two i) (omega (arith, total-two x y (set s i v), total-two x y s, total-set s i v (omega arith)))
+    rw (wordWeight-two i) (omega (arith, total-two x y (set s i v), total-two x y s, total-set s i v (omega arith)))
 
 -- what is outside the range counts nothing
-share-below : (a e i : ℕ) → i < a → share a e i ≡ 0
+pub share-below : (a e i : ℕ) → i < a → share a e i ≡ 0
 unfolding share
 share-below a e i h = simp (lt-leb _ _ h)
 
-share-above : (a e i : ℕ) → e ≤ i → share a e i ≡ 0
+pub share-above : (a e i : ℕ) → e ≤ i → share a e i ≡ 0
 unfolding share
 share-above a e i h = by-test (leb a i) (λ t. simp (t, le-ltb _ _ h)) (λ t. simp t)
 
-pub share-within : (a e i : ℕ) → a ≤ i → i < e → share a e i ≡ place (i - a)
+pub share-within : (a e i : ℕ) → a ≤ i → i < e → share a e i ≡ wordWeight (i - a)
 unfolding share
 share-within a e i h l = simp (le-leb _ _ h, lt-ltb _ _ l)
 

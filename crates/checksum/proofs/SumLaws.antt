@@ -11,8 +11,8 @@ use lib.Dec.{eqb, ltb}
 use lib.ListN.{length, getD, drop, drop-of-length-le}
 use Rattle.base.proofs.Cases.{by-test}
 use Rattle.packet.specs.Packet.{Bytes}
-use Rattle.checksum.specs.Checksum.{words, folded, sumFrom, sumOf}
-use Rattle.checksum.specs.Totals.{plain, total, norm, multiple}
+use Rattle.checksum.specs.Checksum.{words, folded, sumFrom, sumOf, plain, total, reduced}
+use Rattle.checksum.specs.Totals.{multiple}
 
 -- the equations of the definitions
 
@@ -81,61 +81,62 @@ sum-past s r i h = rw (drop-of-length-le s {i = i} h) (sum-nil r)
 pub total-past : (s : List ℕ) (i : ℕ) → length s ≤ i → total (drop i s) ≡ 0
 total-past s i h = rw (drop-of-length-le s {i = i} h) total-nil
 
-pub norm-zero : norm 0 ≡ 0
-unfolding norm
-norm-zero = refl
+pub reduced-zero : reduced 0 ≡ 0
+unfolding reduced
+reduced-zero = refl
 
-pub norm-positive : (t : ℕ) → 0 < t → norm t ≡ suc ((t - 1) % 65535)
-unfolding norm
-norm-positive zero h = absurd (omega arith)
-norm-positive (suc t) h = ap (λ (x : ℕ). suc (x % 65535)) (omega arith)
+pub reduced-positive : (t : ℕ) → 0 < t → reduced t ≡ suc ((t - 1) % 65535)
+unfolding reduced
+reduced-positive zero h = absurd (omega arith)
+reduced-positive (suc t) h = ap (λ (x : ℕ). suc (x % 65535)) (omega arith)
 
-norm-small : (t : ℕ) → t < 65536 → norm t ≡ t
-norm-small zero h = norm-zero
-norm-small (suc t) h = omega (arith, norm-positive (suc t) (omega arith))
+reduced-small : (t : ℕ) → t < 65536 → reduced t ≡ t
+reduced-small zero h = reduced-zero
+reduced-small (suc t) h = omega (arith, reduced-positive (suc t) (omega arith))
 
 -- a carry folded back keeps the number that the total is reduced to
-norm-folded : (x t : ℕ) → x < 131072 → norm (folded x + t) ≡ norm (x + t)
+reduced-folded : (x t : ℕ) → x < 131072 → reduced (folded x + t) ≡ reduced (x + t)
 unfolding folded
-norm-folded zero t h = refl
-norm-folded (suc x) t h =
-    norm-positive (suc x % 65536 + suc x / 65536 + t) (omega arith) ∙ omega arith ∙ sym (norm-positive (suc x + t) (omega arith))
+reduced-folded zero t h = refl
+reduced-folded (suc x) t h =
+    reduced-positive (suc x % 65536 + suc x / 65536 + t) (omega arith) ∙ omega arith ∙ sym (reduced-positive (suc x + t) (omega arith))
 
-sum-from : (r : ℕ) (s : List ℕ) → r < 65536 → Bytes s → sumFrom r (words s) ≡ norm (r + total s)
-sum-from r [] hr b = sum-nil r ∙ sym (ap norm (omega (arith, total-nil)) ∙ norm-small r hr)
+sum-from : (r : ℕ) (s : List ℕ) → r < 65536 → Bytes s → sumFrom r (words s) ≡ reduced (r + total s)
+sum-from r [] hr b = sum-nil r ∙ sym (ap reduced (omega (arith, total-nil)) ∙ reduced-small r hr)
 sum-from r (h ∷ []) hr b =
     let f = folded-lt r (h * 256) hr (omega (arith, b 0)) in
     sum-one r h
-    ∙ sym (norm-small _ f)
-    ∙ ap norm (omega arith)
-    ∙ norm-folded (r + h * 256) 0 (omega (arith, b 0))
-    ∙ ap norm (omega (arith, total-one h))
+    ∙ sym (reduced-small _ f)
+    ∙ ap reduced (omega arith)
+    ∙ reduced-folded (r + h * 256) 0 (omega (arith, b 0))
+    ∙ ap reduced (omega (arith, total-one h))
 sum-from r (h ∷ l ∷ s) hr b =
     sum-two r h l s
     ∙ sum-from (folded (r + (h * 256 + l))) s (folded-lt r (h * 256 + l) hr (omega (arith, b 0, b 1))) (λ i. b (suc (suc i)))
-    ∙ norm-folded (r + (h * 256 + l)) (total s) (omega (arith, b 0, b 1))
-    ∙ ap norm (omega (arith, total-two h l s))
+    ∙ reduced-folded (r + (h * 256 + l)) (total s) (omega (arith, b 0, b 1))
+    ∙ ap reduced (omega (arith, total-two h l s))
 
-pub sum-norm : (s : List ℕ) → Bytes s → sumOf s ≡ norm (total s)
-sum-norm s b = sum-start s ∙ sum-from 0 s (omega arith) b ∙ ap norm (omega arith)
+-- the sum of RFC 1071 is the plain total of the words, reduced
+pub sum-reduced : (s : List ℕ) → Bytes s → sumOf s ≡ reduced (total s)
+sum-reduced s b = sum-start s ∙ sum-from 0 s (omega arith) b ∙ ap reduced (omega arith)
 
-pub norm-lt : (t : ℕ) → norm t < 65536
-norm-lt zero = omega (arith, norm-zero)
-norm-lt (suc t) = omega (arith, norm-positive (suc t) (omega arith))
+pub reduced-lt : (t : ℕ) → reduced t < 65536
+reduced-lt zero = omega (arith, reduced-zero)
+reduced-lt (suc t) = omega (arith, reduced-positive (suc t) (omega arith))
 
 pub sum-lt : (s : List ℕ) → Bytes s → sumOf s < 65536
-sum-lt s b = omega (arith, sum-norm s b, norm-lt (total s))
+sum-lt s b = omega (arith, sum-reduced s b, reduced-lt (total s))
 
-norm-passes : (t : ℕ) → norm t ≡ 65535 ↔ (0 < t) × (t % 65535 ≡ 0)
-norm-passes zero = omega (arith, norm-zero)
-norm-passes (suc t) = omega (arith, norm-positive (suc t) (omega arith))
+reduced-passes : (t : ℕ) → reduced t ≡ 65535 ↔ (0 < t) × (t % 65535 ≡ 0)
+reduced-passes zero = omega (arith, reduced-zero)
+reduced-passes (suc t) = omega (arith, reduced-positive (suc t) (omega arith))
 
 pub sum-passes : (s : List ℕ) → Bytes s → sumOf s ≡ 65535 ↔ (0 < total s) × (total s % 65535 ≡ 0)
-sum-passes s b = rw (sum-norm s b) (norm-passes (total s))
+sum-passes s b = rw (sum-reduced s b) (reduced-passes (total s))
 
-pub multiple-zero : multiple 0 ≡ false
+pub multiple-zero : (t : ℕ) → t ≡ 0 → multiple t ≡ false
 unfolding multiple
-multiple-zero = refl
+multiple-zero t e = rw e refl
 
 pub multiple-positive : (t : ℕ) → 0 < t → multiple t ≡ eqb (t % 65535) 0
 unfolding multiple
@@ -153,3 +154,9 @@ sum-multiple s b =
     by-test (ltb 0 (total s))
     (λ p. rw (e, p) (sym (ne-eqb _ _ (λ m. eqb-false _ _ e (sum-passes s b .1 (ltb-true _ _ p, m))))))
     (λ p. rw (e, p) refl))
+
+-- the plain total is small
+pub total-bound : (s : List ℕ) → Bytes s → total s ≤ 65536 * length s
+total-bound [] h = omega (arith, total-nil)
+total-bound (b ∷ []) h = omega (arith, total-one b, h 0)
+total-bound (b ∷ d ∷ s) h = omega (arith, total-two b d s, h 0, h 1, total-bound s (λ i. h (suc (suc i))))

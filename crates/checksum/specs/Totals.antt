@@ -1,38 +1,26 @@
--- Plain totals of words and what bytes and bits count in them, by which the laws and the inner functions speak of sums.
-use Prim.Native.Nat.{ℕ, zero, suc, _+_, _-_, _*_, _/_, _%_, _^_}
+-- What bytes and bits count in the plain total of a range, by which laws and inner functions decide the second check.
+use Prim.Native.Nat.{ℕ, _+_, _-_, _*_, _/_, _%_, _^_, _≤_}
+use mathlib.Core.Path.{_≡_}
 use mathlib.Core.Bool.{Bool, _&&_}
 use mathlib.Core.List.{List, [], _∷_}
 use lib.Dec.{eqb, leb, ltb}
 use lib.ListN.{length}
 use Rattle.base.specs.Outcome.{pick}
-use Rattle.packet.specs.Packet.{bitAt}
-use Rattle.checksum.specs.Checksum.{words}
-
--- the plain total of words, with no carry folded
-unfoldable pub plain : List ℕ → ℕ
-plain [] = 0
-plain (w ∷ ws) = w + plain ws
-
--- the plain total of the words of bytes
-unfoldable pub total : List ℕ → ℕ
-total s = plain (words s)
-
--- what the carries make of a plain total: 1 to 65535, and 0 for 0 alone
-unfoldable pub norm : ℕ → ℕ
-norm zero = 0
-norm (suc t) = suc (t % 65535)
+use Rattle.packet.specs.Packet.{Bytes, bitAt}
+use Rattle.checksum.specs.Checksum.{total, range}
+use Rattle.checksum.specs.declared.Weighed.{Weighed}
 
 -- whether a plain total is a positive multiple of FFFFh
 unfoldable pub multiple : ℕ → Bool
 multiple t = ltb 0 t && eqb (t % 65535) 0
 
 -- what a byte counts in the total, by its place among the bytes: 256 as a word's high byte, 1 as its low byte
-unfoldable pub place : ℕ → ℕ
-place i = pick (eqb (i % 2) 0) 256 1
+unfoldable pub wordWeight : ℕ → ℕ
+wordWeight i = pick (eqb (i % 2) 0) 256 1
 
 -- what byte i of the packet counts in the total of the range: nothing outside it
 unfoldable pub share : ℕ → ℕ → ℕ → ℕ
-share a e i = pick (leb a i && ltb i e) (place (i - a)) 0
+share a e i = pick (leb a i && ltb i e) (wordWeight (i - a)) 0
 
 -- what the bit at a position counts in the total of the range
 unfoldable pub weight : ℕ → ℕ → List ℕ → ℕ → ℕ
@@ -46,3 +34,10 @@ setWeight a e s (p ∷ ps) = bitAt s p * weight a e s p + setWeight a e s ps
 unfoldable pub clearWeight : ℕ → ℕ → List ℕ → List ℕ → ℕ
 clearWeight a e s [] = 0
 clearWeight a e s (p ∷ ps) = (1 - bitAt s p) * weight a e s p + clearWeight a e s ps
+
+-- w is a check of the packet s, with the total of its range
+pub record Weighs (w : Weighed) (s : List ℕ) : Type 0 where
+  pub bytes : Bytes s
+  pub short : length s ≤ 512
+  pub inside : w .check .to ≤ length s
+  pub known : w .total ≡ total (range (w .check .from) (w .check .to) s)

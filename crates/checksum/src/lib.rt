@@ -1,17 +1,56 @@
 // The checksum of RFC 1071: sums of bytes, the second check, and the stamp that makes a range pass.
+use base::Judgement;
 use base::Refusal;
-use packet::admit;
-use poly::Construction;
+use packet::bit_of;
+use poly::Generator;
 ghost use mathlib.Core.Path.{_≡_};
 ghost use Prim.Native.Nat.{_+_, _*_, _≤_, _<_};
 ghost use lib.ListN.{length, getD};
-ghost use Rattle.checksum.specs.Checksum.{folded, unfitRange, unfitField, written, stamped};
-ghost use Rattle.checksum.specs.Totals.{total, multiple};
-ghost use Rattle.checksum.specs.Calls.{sumCall, stampAnswer, stampCall, stampPacket};
+ghost use Rattle.base.specs.Lists.{Ascending};
+ghost use Rattle.base.specs.Judged.{judgement, judged};
+ghost use Rattle.packet.specs.Packet.{Bytes, bits, flips};
+ghost use Rattle.checksum.specs.Checksum.{
+  folded,
+  total,
+  range,
+  checkOf,
+  passes,
+  unfitRange,
+  unfitField,
+  withField,
+  stamped,
+};
+ghost use Rattle.checksum.specs.Totals.{multiple, share, weight, Weighs};
+ghost use Rattle.checksum.specs.Calls.{
+  sumCall,
+  stampConditions,
+  stampAnswer,
+  stampCall,
+  stampPacket,
+};
+
+// What the second check is taken by: the bytes of the packet from `from` on and before `to`.
+pub struct Check {
+    pub from: usize,
+    pub to: usize,
+}
+
+// A check, with the plain total of its range in one packet.
+pub struct Weighed {
+    pub check: Check,
+    pub total: u64,
+}
 
 pub enum StampAnswer {
     Stamped,
     Refused(Refusal),
+}
+
+// What the second check is taken by, from the numbers given, whether they are accepted or not.
+pub fn check_of(from: usize, to: usize) -> Check
+    ensures { λ r. ⌜ r ≡ checkOf from to ⌝ }
+{
+    Check { from, to }
 }
 
 // The word that begins at byte i, with a zero byte added where the bytes end.
@@ -48,7 +87,7 @@ pub fn sum(s: &[u8]) -> u16
 }
 
 // The plain total of the words of bytes, with no carry folded.
-pub fn total_of(s: &[u8]) -> u64
+fn total_of(s: &[u8]) -> u64
     requires { ⌜ length (now s) ≤ 512 ⌝ }
     ensures { λ r. ⌜ r ≡ total (now (s .entry)) ⌝ }
 {
@@ -61,8 +100,19 @@ pub fn total_of(s: &[u8]) -> u64
     t
 }
 
-// Whether a range of this plain total passes the second check.
-pub fn decide(t: u64) -> bool
+// What the check of one packet's candidates needs, taken once.
+pub fn weigh(check: Check, packet: &[u8]) -> Weighed
+    requires { ⌜ Bytes (now packet) × (length (now packet) ≤ 512) × (check .from ≤ check .to) × (check .to ≤ length (now packet)) ⌝ }
+    ensures { λ r. ⌜ (r .check ≡ check) × Weighs r (now (packet .entry)) ⌝ }
+{
+    let from = check.from;
+    let to = check.to;
+    let total = total_of(&packet[from..to]);
+    Weighed { check, total }
+}
+
+// Whether a range of this plain total passes.
+fn decide(t: u64) -> bool
     ensures { λ r. ⌜ r ≡ multiple t ⌝ }
 {
     if t == 0 {
@@ -71,71 +121,155 @@ pub fn decide(t: u64) -> bool
     t % 65535 == 0
 }
 
-// Condition 9, for a generator of this degree and a packet of `len` bytes.
-pub fn range_unfit(degree: u32, len: usize, a: usize, e: usize) -> bool
-    requires { ⌜ (degree ≤ 16) × (len ≤ 512) ⌝ }
-    ensures { λ r. ⌜ r ≡ unfitRange degree (8 * len) a e ⌝ }
+// What byte i counts in the total of the range.
+fn share_of(from: usize, to: usize, i: usize) -> u64
+    ensures { λ r. ⌜ (r ≡ share from to i) × (r ≤ 256) ⌝ }
 {
-    if e <= a {
+    if i < from {
+        return 0;
+    }
+    if to <= i {
+        return 0;
+    }
+    if (i - from) % 2 == 0 {
+        return 256;
+    }
+    1
+}
+
+// What the bit at a position counts in the total of the range.
+fn weight_of(packet: &[u8], from: usize, to: usize, p: usize) -> u64
+    requires { ⌜ p < bits (now packet) ⌝ }
+    ensures { λ r. ⌜ (r ≡ weight from to (now (packet .entry)) p) × (r ≤ 32768) ⌝ }
+{
+    let share = share_of(from, to, packet.len() - 1 - p / 8);
+    share << (p % 8)
+}
+
+// The total of the range once the positions are flipped, from the total before.
+fn flipped_total(w: Weighed, packet: &[u8], pos: &[u16]) -> u64
+    requires { ⌜ Weighs w (now packet) × Ascending (bits (now packet)) 0 (now pos) ⌝ }
+    ensures { λ r. ⌜ r ≡ total (range (w .check .from) (w .check .to) (flips (now (packet .entry)) (now (pos .entry)))) ⌝ }
+{
+    let check = w.check;
+    let from = check.from;
+    let to = check.to;
+    let before = w.total;
+    let mut plus: u64 = 0;
+    let mut minus: u64 = 0;
+    let mut i: usize = 0;
+    while i < pos.len() {
+        let p = pos[i] as usize;
+        let weight = weight_of(packet, from, to, p);
+        let b = bit_of(packet, p);
+        plus += (1 - b) * weight;
+        minus += b * weight;
+        i += 1;
+    }
+    before + plus - minus
+}
+
+// Whether the packet passes the second check once the positions are flipped.
+pub fn passes_flipped(w: Weighed, packet: &[u8], pos: &[u16]) -> bool
+    requires { ⌜ Weighs w (now packet) × Ascending (bits (now packet)) 0 (now pos) ⌝ }
+    ensures { λ r. ⌜ r ≡ passes (w .check) (flips (now (packet .entry)) (now (pos .entry))) ⌝ }
+{
+    decide(flipped_total(w, packet, pos))
+}
+
+// The same of the packet as it stands.
+pub fn passes_received(w: Weighed, packet: &[u8]) -> bool
+    requires { ⌜ Weighs w (now packet) ⌝ }
+    ensures { λ r. ⌜ r ≡ passes (w .check) (now (packet .entry)) ⌝ }
+{
+    let none = [0u16; 0];
+    passes_flipped(w, packet, &none)
+}
+
+// Condition 9, for a packet of `len` bytes, of any number.
+pub fn unfit_range(g: Generator, len: usize, check: Check) -> bool
+    ensures { λ r. ⌜ r ≡ unfitRange (g .degree) (8 * len) check ⌝ }
+{
+    let from = check.from;
+    let to = check.to;
+    if to <= from {
         return true;
     }
-    if len < e {
+    if len < to {
         return true;
     }
-    8 * len < 8 * e + degree as usize
+    len - to < (g.degree as usize + 7) / 8
 }
 
 // Condition 10, for any numbers.
-pub fn field_unfit(a: usize, e: usize, field: usize) -> bool
-    ensures { λ r. ⌜ r ≡ unfitField a e field ⌝ }
+fn unfit_field(check: Check, field: usize) -> bool
+    ensures { λ r. ⌜ r ≡ unfitField check field ⌝ }
 {
-    if field < a {
+    let from = check.from;
+    let to = check.to;
+    if field < from {
         return true;
     }
-    if e <= field {
+    if to <= field {
         return true;
     }
-    if e - field < 2 {
+    if to - field < 2 {
         return true;
     }
-    (field - a) % 2 == 1
+    (field - from) % 2 == 1
 }
 
 // Writes a number into the two bytes of the field, high byte first.
 fn write_field(packet: &mut [u8], field: usize, value: u16)
     requires { ⌜ field + 1 < length (now packet) ⌝ }
-    ensures { λ _. ⌜ now (packet .exit) ≡ written field value (now (packet .entry)) ⌝ }
+    ensures { λ _. ⌜ now (packet .exit) ≡ withField field value (now (packet .entry)) ⌝ }
 {
     packet[field] = (value / 256) as u8;
     packet[field + 1] = (value % 256) as u8;
 }
 
 // Writes what the sum of the range lacks to FFFFh, the field taken as zero, into the field.
-fn fill_field(packet: &mut [u8], a: usize, e: usize, field: usize)
-    requires { ⌜ (a ≤ field) × (field + 2 ≤ e) × (e ≤ length (now packet)) ⌝ }
-    ensures { λ _. ⌜ now (packet .exit) ≡ stamped a e field (now (packet .entry)) ⌝ }
+fn fill_field(packet: &mut [u8], check: Check, field: usize)
+    requires { ⌜ (check .from ≤ field) × (field + 2 ≤ check .to) × (check .to ≤ length (now packet)) ⌝ }
+    ensures { λ _. ⌜ now (packet .exit) ≡ stamped check field (now (packet .entry)) ⌝ }
 {
+    let from = check.from;
+    let to = check.to;
     write_field(packet, field, 0);
-    let rest = sum(&packet[a..e]);
+    let rest = sum(&packet[from..to]);
     write_field(packet, field, 65535 - rest);
 }
 
-// Makes the range [a, e) of a packet pass, by the field in it.
-pub fn stamp(generator: u64, a: usize, e: usize, field: usize, packet: &mut [u8]) -> StampAnswer
-    ensures answer { λ r. ⌜ stampAnswer r ≡ stampCall generator a e field (now (packet .entry)) ⌝ }
-    ensures bytes { λ r. ⌜ now (packet .exit) ≡ stampPacket generator a e field (now (packet .entry)) ⌝ }
+// The conditions of stamp, in their order.
+fn judge_stamp(generator: u64, check: Check, field: usize, len: usize) -> Judgement
+    ensures { λ r. ⌜ judgement r ≡ judged (stampConditions generator (8 * len) check field) ⌝ }
 {
-    let made = admit(generator, packet.len());
-    match made {
-        Construction::Refused(r) => StampAnswer::Refused(r),
-        Construction::Made(g) => {
-            if range_unfit(g.degree, packet.len(), a, e) {
-                return StampAnswer::Refused(Refusal::Range);
-            }
-            if field_unfit(a, e, field) {
-                return StampAnswer::Refused(Refusal::Field);
-            }
-            fill_field(packet, a, e, field);
+    if poly::unfit_generator(generator) {
+        return Judgement::Refused(Refusal::Generator);
+    }
+    let g = Generator::of(generator);
+    if packet::unfit_bytes(g, len) {
+        return Judgement::Refused(Refusal::Length);
+    }
+    if unfit_range(g, len, check) {
+        return Judgement::Refused(Refusal::Range);
+    }
+    if unfit_field(check, field) {
+        return Judgement::Refused(Refusal::Field);
+    }
+    Judgement::Passed
+}
+
+// Makes the range of a packet pass, by the field in it.
+pub fn stamp(generator: u64, check: Check, field: usize, packet: &mut [u8]) -> StampAnswer
+    ensures answer { λ r. ⌜ stampAnswer r ≡ stampCall generator check field (now (packet .entry)) ⌝ }
+    ensures bytes { λ r. ⌜ now (packet .exit) ≡ stampPacket generator check field (now (packet .entry)) ⌝ }
+{
+    let judged = judge_stamp(generator, check, field, packet.len());
+    match judged {
+        Judgement::Refused(r) => StampAnswer::Refused(r),
+        Judgement::Passed => {
+            fill_field(packet, check, field);
             StampAnswer::Stamped
         }
     }

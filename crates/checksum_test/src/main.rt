@@ -1,7 +1,10 @@
 // Compares sum and stamp with vectors that were worked by other code (see stdout).
+use checksum::Check;
 use checksum::StampAnswer;
+use checksum::check_of;
 use libc::STDOUT_FILENO;
 use packet::RemainderAnswer;
+use poly::Generator;
 
 // Arguments for a, e and the field: those about a packet of six bytes, and some whose sums or products wrap.
 const PLACES: [usize; 12] = [
@@ -57,24 +60,24 @@ fn show_answer(answer: StampAnswer) {
             io::print_hex(STDOUT_FILENO, 0, 1);
         }
         StampAnswer::Refused(r) => {
-            io::print_hex(STDOUT_FILENO, base::number_of(r), 1);
+            io::print_hex(STDOUT_FILENO, base::number_of(r) as u64, 1);
         }
     }
 }
 
 // The answer and the bytes that the packet then holds.
-fn show_stamp(generator: u64, a: usize, e: usize, field: usize, packet: &mut [u8]) {
-    show_answer(checksum::stamp(generator, a, e, field, packet));
+fn show_stamp(generator: u64, check: Check, field: usize, packet: &mut [u8]) {
+    show_answer(checksum::stamp(generator, check, field, packet));
     testkit::print(b" ");
     show_bytes(packet);
     newline();
 }
 
 // The answer of one stamp, and the packet where it changed.
-fn show_place(generator: u64, a: usize, e: usize, field: usize) {
+fn show_place(generator: u64, check: Check, field: usize) {
     let packet = [0xe1u8, 0x23, 0xab, 0xcd, 0x9f, 0x07];
     let mut copy = packet;
-    show_answer(checksum::stamp(generator, a, e, field, &mut copy));
+    show_answer(checksum::stamp(generator, check, field, &mut copy));
     if !check::same(&packet, &copy) {
         testkit::print(b"[");
         show_bytes(&copy);
@@ -88,8 +91,7 @@ fn show_places(generator: u64) {
     while k < 1728 {
         show_place(
             generator,
-            PLACES[k / 144],
-            PLACES[k / 12 % 12],
+            check_of(PLACES[k / 144], PLACES[k / 12 % 12]),
             PLACES[k % 12],
         );
         if k % 12 == 11 {
@@ -100,8 +102,8 @@ fn show_places(generator: u64) {
 }
 
 // Stamped and then sealed: the remainder, and the sum of the range.
-fn show_both(generator: u64, a: usize, e: usize, field: usize, packet: &mut [u8]) {
-    show_answer(checksum::stamp(generator, a, e, field, packet));
+fn show_both(generator: u64, check: Check, field: usize, packet: &mut [u8]) {
+    show_answer(checksum::stamp(generator, check, field, packet));
     packet::seal(generator, packet);
     testkit::print(b" ");
     match packet::remainder(generator, packet) {
@@ -113,6 +115,8 @@ fn show_both(generator: u64, a: usize, e: usize, field: usize, packet: &mut [u8]
         }
     }
     testkit::print(b" ");
+    let a = check.from;
+    let e = check.to;
     if e <= packet.len() {
         if a <= e {
             show_sum(&packet[a..e]);
@@ -137,28 +141,28 @@ fn show_sums() {
 // Refusals by 1 before 2, and by 2 before 9 and 10.
 fn show_first_refusals() {
     let mut none = [0u8; 0];
-    show_stamp(8, 3, 2, 9, &mut none);
-    show_stamp(53, 0, 2, 0, &mut none);
+    show_stamp(8, check_of(3, 2), 9, &mut none);
+    show_stamp(53, check_of(0, 2), 0, &mut none);
     let mut two = [1u8, 2];
-    show_stamp(7, 0, 2, 0, &mut two);
-    show_stamp(131073, 0, 2, 0, &mut two);
-    show_stamp(0, 0, 2, 0, &mut two);
-    show_stamp(0x11021, 3, 2, 9, &mut two);
-    show_stamp(53, 3, 2, 9, &mut two);
+    show_stamp(7, check_of(0, 2), 0, &mut two);
+    show_stamp(131073, check_of(0, 2), 0, &mut two);
+    show_stamp(0, check_of(0, 2), 0, &mut two);
+    show_stamp(0x11021, check_of(3, 2), 9, &mut two);
+    show_stamp(53, check_of(3, 2), 9, &mut two);
     let mut above = [0u8; 513];
-    show_answer(checksum::stamp(53, 0, 2, 0, &mut above));
+    show_answer(checksum::stamp(53, check_of(0, 2), 0, &mut above));
     newline();
 }
 
 fn show_sealed() {
     let mut most = [0u8; 512];
     testkit::fill(&mut most, 9);
-    show_both(53, 0, 511, 508, &mut most);
-    show_both(0x11021, 1, 510, 507, &mut most);
+    show_both(53, check_of(0, 511), 508, &mut most);
+    show_both(0x11021, check_of(1, 510), 507, &mut most);
     let mut nine = [0u8; 9];
     testkit::fill(&mut nine, 10);
-    show_both(0x11021, 3, 6, 3, &mut nine);
-    show_both(9, 0, 8, 6, &mut nine);
+    show_both(0x11021, check_of(3, 6), 3, &mut nine);
+    show_both(9, check_of(0, 8), 6, &mut nine);
     show_bytes(&nine);
     newline();
 }
@@ -166,7 +170,9 @@ fn show_sealed() {
 fn main() {
     show_sums();
     show_first_refusals();
-    show_places(53);
-    show_places(0x11021);
+    let five = Generator::five();
+    let ccitt = Generator::ccitt();
+    show_places(five.coefficients);
+    show_places(ccitt.coefficients);
     show_sealed();
 }

@@ -4,4 +4,3 @@ pub mod ReadLaws
 pub mod StoreLaws
 pub mod WritingLaws
 pub mod RecordLaws
-pub mod PageLaws

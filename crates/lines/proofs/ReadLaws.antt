@@ -8,8 +8,8 @@ use native.Mathlib.Numerals.{add-one}
 use native.Mathlib.Nat.{pow-le-pow-right}
 use lib.ListN.{length, getD, drop, drop-of-length-le}
 use lib.Seq.{drop-cons}
-use Rattle.lines.specs.Decimal.{Digit, isDigit}
-use Rattle.lines.specs.Input.{number, missing, readFrom, read}
+use Rattle.lines.specs.Decimal.{Digit}
+use Rattle.lines.specs.Parsing.{isDigit, numeral, missing, readFrom, read}
 use Rattle.lines.proofs.InputLaws.{read-digit, read-other, readFrom-close, readFrom-full, readFrom-other, readFrom-digit}
 
 module _ (close : ℕ) (s : List ℕ) (at : ℕ) where
@@ -32,7 +32,7 @@ module _ (close : ℕ) (s : List ℕ) (at : ℕ) where
     read-digit-at d = rw here (read-digit close (getD s at 0) (drop (at + 1) s) d)
 
     module _ (room v : ℕ) where
-      pub readFrom-close-at : getD s at 0 ≡ close → readFrom close room v (drop at s) ≡ number v (drop (at + 1) s)
+      pub readFrom-close-at : getD s at 0 ≡ close → readFrom close room v (drop at s) ≡ numeral v (drop (at + 1) s)
       readFrom-close-at e = rw here (readFrom-close close room v (getD s at 0) (drop (at + 1) s) e)
 
       module _ (e : getD s at 0 ≡ close → ⊥) where

@@ -3,10 +3,10 @@ use mathlib.Core.Path.{_≡_, refl, sym, ap, _∙_}
 use mathlib.Core.List.{List, [], _∷_, _++_}
 use Prim.Native.Nat.{ℕ, _+_, _≤_}
 use native.Mathlib.Omega.{arith}
-use lib.ListN.{length, set, length-append}
-use lib.Seq.{sets, length-sets, length-take-le}
-use Rattle.lines.specs.Text.{Stored, Front}
-use Rattle.lines.proofs.StoreLaws.{sets-append}
+use lib.ListN.{length, take, set, length-append}
+use lib.Seq.{sets, length-sets, length-take-le, take-at}
+use Rattle.lines.specs.Writing.{Stored, Front}
+use Rattle.lines.proofs.StoreLaws.{sets-append, sets-start}
 
 -- out and next, with `rest` still to be stored from next on, come from out₀ and to with `whole` to be stored
 pub record Writing (out₀ : List ℕ) (to : ℕ) (whole out : List ℕ) (next : ℕ) (rest : List ℕ) : Type 0 where
@@ -36,13 +36,13 @@ module _ {out₀ : List ℕ} {to : ℕ} {whole out : List ℕ} {next : ℕ} wher
   pub writing-stored : Writing out₀ to whole out next [] → Stored out₀ to whole next out
   writing-stored w = record { place = omega (arith, w .place); bytes = w .bytes }
 
--- a text stored behind a word that was stored is both, joined
-pub stored-behind : (word text out : List ℕ) (to next : ℕ) (after : List ℕ)
-    → Stored (sets out to word) (to + length word) text next after → Stored out to (word ++ text) next after
-stored-behind word text out to next after h =
+-- two texts stored one behind the other are both, joined
+pub stored-joined : {out mid after : List ℕ} {to middle next : ℕ} (word text : List ℕ)
+    → Stored out to word middle mid → Stored mid middle text next after → Stored out to (word ++ text) next after
+stored-joined {out} {mid} {after} {to} {middle} {next} word text g h =
     record {
-      place = omega (arith, h .place, length-append word text);
-      bytes = h .bytes ∙ sym (sets-append word text out to);
+      place = omega (arith, g .place, h .place, length-append word text);
+      bytes = h .bytes ∙ rw (g .bytes, g .place) (sym (sets-append word text out to));
     }
 
 pub front-of : (n : ℕ) (xs : List ℕ) → n ≤ length xs → Front n xs
@@ -50,3 +50,10 @@ front-of n xs h = (h, sym (length-take-le n xs h))
 
 pub stored-front : {out : List ℕ} {to : ℕ} {text : List ℕ} {next : ℕ} {after : List ℕ} → Stored out to text next after → next ≤ length out → Front next after
 stored-front {out} {to} {text} {next} {after} h l = front-of next after (omega (arith, ap length (h .bytes), length-sets out to text))
+
+-- a text stored from the start on can be taken from there
+pub stored-text : {out : List ℕ} {text : List ℕ} {n : ℕ} {after : List ℕ} → Stored out 0 text n after → Front n after → take n after ≡ text
+stored-text {out} {text} {n} {after} h f =
+    let e : n ≡ length text = omega (arith, h .place) in
+    let l : length text ≤ length out = omega (arith, f .0, ap length (h .bytes), length-sets out 0 text) in
+    rw (h .bytes, e, sets-start text out l) (take-at text _ (length text) refl)

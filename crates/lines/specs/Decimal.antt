@@ -1,8 +1,7 @@
 -- Numbers as decimal text, both ways.
 use Prim.Native.Nat.{ℕ, zero, suc, _+_, _-_, _*_, _/_, _%_, _≤_, _<_}
-use mathlib.Core.Bool.{Bool, _&&_}
 use mathlib.Core.List.{List, [], _∷_, _++_}
-use lib.Dec.{ltb, leb}
+use lib.Dec.{ltb}
 use Rattle.base.specs.Outcome.{pick}
 
 -- the decimal digits of v, where so many divisions by ten are enough
@@ -17,10 +16,6 @@ decimal v = digitsOf v v
 -- a byte that is a decimal digit
 abbrev pub Digit : ℕ → Type 0
 Digit c = (48 ≤ c) × (c < 58)
-
--- the same as a test
-abbrev pub isDigit : ℕ → Bool
-isDigit c = leb 48 c && ltb c 58
 
 -- the number that v becomes as these digits are written behind it
 unfoldable pub valueFrom : ℕ → List ℕ → ℕ

@@ -1,57 +1,47 @@
-// The listing program's line of input and lines of output.
+// Text of the programs: a line of numbers read, and lines of patterns and refusals written.
 use base::Refusal;
 ghost use mathlib.Core.Path.{_≡_};
-ghost use mathlib.Core.List.{List, [], _∷_, _++_};
-ghost use Prim.Native.Nat.{ℕ, _+_, _*_, _<_, _≤_};
+ghost use mathlib.Core.List.{[], _∷_, _++_};
+ghost use Prim.Native.Nat.{_+_, _*_, _<_, _≤_};
 ghost use lib.ListN.{length, drop};
+ghost use lib.Seq.{sets};
 ghost use Rattle.base.specs.Refusals.{number};
+ghost use Rattle.patterns.specs.Records.{positionsIn, patternsIn};
 ghost use Rattle.lines.specs.Decimal.{decimal};
-ghost use Rattle.lines.specs.Input.{read, readingOf, parseLine};
-ghost use Rattle.lines.specs.Text.{
-  spaced,
-  lineOf,
-  endLine,
-  refusedLine,
-  badLine,
-  Stored,
-  Front,
-  positionsIn,
-  pageAnswer,
-  pageText,
-  Shown,
-};
-
-// Generator, length in bits, limit and syndrome; or no such line.
-pub enum Line {
-    Numbers(u64, u64, u64, u64),
-    Bad,
-}
+ghost use Rattle.lines.specs.Input.{closing};
+ghost use Rattle.lines.specs.Parsing.{read, readingOf, numbersIn, wholeLine};
+ghost use Rattle.lines.specs.Text.{spaced, lineOf, textOf, endLine, refusedLine, badLine};
+ghost use Rattle.lines.specs.Writing.{Stored, Front, lineRoom};
 
 // A number with the place after its closing byte; or none.
-pub enum Found {
+pub enum Numeral {
     Number(u64, usize),
     Missing,
 }
 
-// How many bytes of text were written; or the output is too short for the page.
-pub enum PageText {
-    Written(usize),
-    Short,
+// The byte behind a number that so many more follow.
+fn closing_byte(more: usize) -> u8
+    ensures { λ r. ⌜ r ≡ closing more ⌝ }
+{
+    if more == 0 {
+        return b'\n';
+    }
+    b' '
 }
 
 // One to nine digits from `from` on, and the byte `close`.
-fn field(input: &[u8], from: usize, close: u8) -> Found
+fn number_at(input: &[u8], from: usize, close: u8) -> Numeral
     ensures { λ r. ⌜ readingOf (now (input .entry)) r ≡ read close (drop from (now (input .entry))) ⌝ }
 {
     if input.len() <= from {
-        return Found::Missing;
+        return Numeral::Missing;
     }
     let first = input[from];
     if first < 48 {
-        return Found::Missing;
+        return Numeral::Missing;
     }
     if 57 < first {
-        return Found::Missing;
+        return Numeral::Missing;
     }
     let mut value = (first - 48) as u64;
     let mut at = from + 1;
@@ -59,44 +49,41 @@ fn field(input: &[u8], from: usize, close: u8) -> Found
     while at < input.len() {
         let c = input[at];
         if c == close {
-            return Found::Number(value, at + 1);
+            return Numeral::Number(value, at + 1);
         }
         if room == 0 {
-            return Found::Missing;
+            return Numeral::Missing;
         }
         if c < 48 {
-            return Found::Missing;
+            return Numeral::Missing;
         }
         if 57 < c {
-            return Found::Missing;
+            return Numeral::Missing;
         }
         value = value * 10 + (c - 48) as u64;
         at += 1;
         room -= 1;
     }
-    Found::Missing
+    Numeral::Missing
 }
 
-// The whole input as one line.
-pub fn parse(input: &[u8]) -> Line
-    ensures { λ r. ⌜ r ≡ parseLine (now (input .entry)) ⌝ }
+// The whole input as a line of as many numbers as there is room for. They are stored, up to the first that is missing.
+pub fn parse(input: &[u8], out: &mut [u64]) -> bool
+    ensures answer { λ r. ⌜ r ≡ wholeLine (length (now (out .entry))) (now (input .entry)) ⌝ }
+    ensures numbers { λ _. ⌜ now (out .exit) ≡ sets (now (out .entry)) 0 (numbersIn (length (now (out .entry))) (now (input .entry))) ⌝ }
 {
-    let Found::Number(generator, second) = field(input, 0, b' ') else {
-        return Line::Bad;
-    };
-    let Found::Number(length, third) = field(input, second, b' ') else {
-        return Line::Bad;
-    };
-    let Found::Number(limit, fourth) = field(input, third, b' ') else {
-        return Line::Bad;
-    };
-    let Found::Number(syndrome, end) = field(input, fourth, b'\n') else {
-        return Line::Bad;
-    };
-    if end < input.len() {
-        return Line::Bad;
+    let mut at = 0;
+    let mut i = 0;
+    while i < out.len() {
+        let close = closing_byte(out.len() - i - 1);
+        let Numeral::Number(value, next) = number_at(input, at, close) else {
+            return false;
+        };
+        out[i] = value;
+        at = next;
+        i += 1;
     }
-    Line::Numbers(generator, length, limit, syndrome)
+    input.len() <= at
 }
 
 // Writes v in decimal from `to` on, and answers the place after it.
@@ -145,36 +132,24 @@ fn line_at(page: &[u8], at: usize, count: usize, out: &mut [u8], to: usize) -> u
     end + 1
 }
 
-// The records of a page as lines of text, up to the first record that is not whole.
-pub fn page_text(page: &[u8], out: &mut [u8]) -> PageText
-    ensures answer { λ r. ⌜ r ≡ pageAnswer (now (page .entry)) (length (now (out .entry))) ⌝ }
-    ensures bytes { λ _. ⌜ now (out .exit) ≡ pageText (now (page .entry)) (now (out .entry)) ⌝ }
-    ensures front { λ r. ⌜ Shown r (now (out .exit)) ⌝ }
+// The records of a page as lines of text, up to the first record that is not whole; the answer is the text's length.
+pub fn page_text(page: &[u8], out: &mut [u8]) -> usize
+    requires { ⌜ 4 * length (now page) ≤ length (now out) ⌝ }
+    ensures text { λ r. ⌜ Stored (now (out .entry)) 0 (textOf (patternsIn (now (page .entry)))) r (now (out .exit)) ⌝ }
+    ensures front { λ r. ⌜ Front r (now (out .exit)) ⌝ }
 {
-    if out.len() / 4 < page.len() {
-        return PageText::Short;
-    }
     let mut at = 0;
     let mut to = 0;
     while at < page.len() {
         let count = page[at] as usize;
         at += 1;
         if page.len() - at < 2 * count {
-            return PageText::Written(to);
+            return to;
         }
         to = line_at(page, at, count, out, to);
         at += 2 * count;
     }
-    PageText::Written(to)
-}
-
-// Writes a line feed at `to`, and answers the place after it.
-fn feed_at(out: &mut [u8], to: usize) -> usize
-    requires { ⌜ to < length (now out) ⌝ }
-    ensures { λ r. ⌜ Stored (now (out .entry)) to (10 ∷ []) r (now (out .exit)) ⌝ }
-{
-    out[to] = b'\n';
-    to + 1
+    to
 }
 
 // Writes v in decimal and a line feed from `to` on, and answers the place after it.
@@ -188,47 +163,47 @@ fn number_line_at(v: u64, out: &mut [u8], to: usize) -> usize
     end + 1
 }
 
+// Writes a word from `to` on, and answers the place after it.
+fn word_at(word: &[u8], out: &mut [u8], to: usize) -> usize
+    requires { ⌜ to + length (now word) ≤ length (now out) ⌝ }
+    ensures { λ r. ⌜ Stored (now (out .entry)) to (now (word .entry)) r (now (out .exit)) ⌝ }
+{
+    let mut i = 0;
+    while i < word.len() {
+        out[to + i] = word[i];
+        i += 1;
+    }
+    to + i
+}
+
 // Writes the line that closes a list of `count` patterns, and answers its length.
-pub fn end_line(count: u64, out: &mut [u8; 32]) -> usize
+pub fn end_line(count: u64, out: &mut [u8]) -> usize
+    requires { ⌜ lineRoom ≤ length (now out) ⌝ }
     ensures text { λ r. ⌜ Stored (now (out .entry)) 0 (endLine count) r (now (out .exit)) ⌝ }
     ensures front { λ r. ⌜ Front r (now (out .exit)) ⌝ }
 {
-    out[0] = b'e';
-    out[1] = b'n';
-    out[2] = b'd';
-    out[3] = b' ';
-    number_line_at(count, out, 4)
+    let word = [b'e', b'n', b'd', b' '];
+    let to = word_at(&word, out, 0);
+    number_line_at(count, out, to)
 }
 
 // Writes the line of a refusal, and answers its length.
-pub fn refused_line(refusal: Refusal, out: &mut [u8; 32]) -> usize
+pub fn refused_line(refusal: Refusal, out: &mut [u8]) -> usize
+    requires { ⌜ lineRoom ≤ length (now out) ⌝ }
     ensures text { λ r. ⌜ Stored (now (out .entry)) 0 (refusedLine (number refusal)) r (now (out .exit)) ⌝ }
     ensures front { λ r. ⌜ Front r (now (out .exit)) ⌝ }
 {
-    let k = base::number_of(refusal);
-    out[0] = b'r';
-    out[1] = b'e';
-    out[2] = b'f';
-    out[3] = b'u';
-    out[4] = b's';
-    out[5] = b'e';
-    out[6] = b'd';
-    out[7] = b' ';
-    number_line_at(k, out, 8)
+    let word = [b'r', b'e', b'f', b'u', b's', b'e', b'd', b' '];
+    let to = word_at(&word, out, 0);
+    number_line_at(base::number_of(refusal) as u64, out, to)
 }
 
 // Writes the line for any other input, and answers its length.
-pub fn bad_line(out: &mut [u8; 32]) -> usize
+pub fn bad_line(out: &mut [u8]) -> usize
+    requires { ⌜ lineRoom ≤ length (now out) ⌝ }
     ensures text { λ r. ⌜ Stored (now (out .entry)) 0 badLine r (now (out .exit)) ⌝ }
     ensures front { λ r. ⌜ Front r (now (out .exit)) ⌝ }
 {
-    out[0] = b'b';
-    out[1] = b'a';
-    out[2] = b'd';
-    out[3] = b' ';
-    out[4] = b'l';
-    out[5] = b'i';
-    out[6] = b'n';
-    out[7] = b'e';
-    feed_at(out, 8)
+    let line = [b'b', b'a', b'd', b' ', b'l', b'i', b'n', b'e', b'\n'];
+    word_at(&line, out, 0)
 }

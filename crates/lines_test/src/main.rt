@@ -1,33 +1,37 @@
 // Prints what is read of lines that are right or wrong at one place, and the text of a few records.
 use base::Refusal;
-use libc::STDOUT_FILENO;
-use lines::Line;
-use lines::PageText;
 
-// The four numbers of a line, or "bad".
-fn read(input: &[u8]) {
-    match lines::parse(input) {
-        Line::Numbers(generator, length, limit, syndrome) => {
-            testkit::print_number(generator, b' ');
-            testkit::print_number(length, b' ');
-            testkit::print_number(limit, b' ');
-            testkit::print_number(syndrome, b'\n');
-        }
-        Line::Bad => testkit::print(b"bad\n"),
+// As many numbers as there is room for, and whether the input is a line of so many.
+fn read_into(input: &[u8], numbers: &mut [u64]) {
+    let whole = lines::parse(input, numbers);
+    testkit::print_numbers(numbers);
+    if whole {
+        testkit::print(b"line\n");
+        return;
     }
+    testkit::print(b"bad\n");
 }
 
-// The text of some records, in an output of 32 bytes, with the number of its bytes; or "short".
+fn read(input: &[u8]) {
+    let mut numbers = [7u64; 4];
+    read_into(input, &mut numbers);
+}
+
+fn read_three(input: &[u8]) {
+    let mut numbers = [7u64; 3];
+    read_into(input, &mut numbers);
+}
+
+// The text of some records, with the number of its bytes.
 fn print_page(page: &[u8]) {
-    let mut out = [46u8; 32];
-    match lines::page_text(page, &mut out) {
-        PageText::Written(n) => {
-            testkit::print_number(n as u64, b'\n');
-            testkit::print(&out);
-            testkit::print(b"\n");
-        }
-        PageText::Short => testkit::print(b"short\n"),
+    let mut out = [46u8; 64];
+    if 16 < page.len() {
+        return;
     }
+    let n = lines::page_text(page, &mut out);
+    testkit::print_number(n as u64, b'\n');
+    testkit::print(&out);
+    testkit::print(b"\n");
 }
 
 fn print_end(count: u64) {
@@ -90,6 +94,13 @@ fn wrong_digits() {
     read(b"five 8 2 3\n");
 }
 
+fn other_counts() {
+    read_three(b"53 8 2\n");
+    read_three(b"53 8 2 3\n");
+    read_three(b"53 8\n");
+    read_three(b"53 8 2");
+}
+
 fn pages() {
     print_page(b"");
     print_page(b"\x00");
@@ -107,6 +118,8 @@ fn main() {
     wrong_ends();
     testkit::print(b"digits\n");
     wrong_digits();
+    testkit::print(b"three numbers\n");
+    other_counts();
     testkit::print(b"pages\n");
     pages();
     testkit::print(b"closing lines\n");

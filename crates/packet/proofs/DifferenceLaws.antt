@@ -1,6 +1,6 @@
--- Flipping the positions at which two packets differ makes one from the other.
+-- Flipping the positions at which two packets differ makes one from the other; and packets that agree from some position
+-- on differ by a polynomial of smaller degree.
 use mathlib.Core.Path.{_≡_, refl, sym, ap, ap₂, _∙_}
-use mathlib.Core.Bool.{true, false}
 use mathlib.Core.List.{List}
 use Prim.Native.Nat.{ℕ, zero, suc, _+_, _-_, _*_, _/_, _%_, _^_, _<_, _≤_}
 use native.Mathlib.Omega.{arith}
@@ -10,28 +10,30 @@ use borrow.Author.Tests.{eqb-true, eqb-false}
 use lib.Bits.{bitXor, differ, xor-shr, xor-shifted, xor-comm, xor-lt}
 use lib.Dec.{eqb}
 use lib.ListN.{length}
-use lib.Pow.{pow-pos, mod-pow-add, shr-shr}
-use Rattle.base.specs.Lists.{All, none, each}
-use Rattle.base.proofs.Cases.{by-test}
-use Rattle.base.proofs.XorLaws.{xor-low, xor-cancel}
+use lib.Pow.{pow-pos, pow-lt, mod-pow-add, shr-shr}
+use Rattle.base.specs.Lists.{All, none, each, Ascending, ends, next}
+use Rattle.base.proofs.Cases.{by-test, by-order}
+use Rattle.base.proofs.ListLaws.{ascending-from, ascending-all}
+use Rattle.base.proofs.XorLaws.{xor-low, xor-cancel, xor-ac}
 use Rattle.poly.specs.Polynomial.{powers}
 use Rattle.packet.specs.Packet.{Bytes, bits, polynomial, bytes, bitAt, flips, differing, difference}
 use Rattle.packet.proofs.PacketLaws.{bytes-polynomial}
 use Rattle.packet.proofs.FlipLaws.{polynomial-lt, byte-power, bit-coefficient, polynomial-flips, flips-length, flips-bytes}
 
--- ---- the positions are positions of the packet
+-- ---- they are a set of positions of the packet
 
-within-from : (s t : List ℕ) (room from l : ℕ) → from + room ≤ l → All (λ (p : ℕ). p < l) (differing s t room from)
+differing-ascending : (s t : List ℕ) (room from l : ℕ) → from + room ≤ l → Ascending l from (differing s t room from)
 unfolding differing
-within-from s t zero from l h = none
-within-from s t (suc room) from l h =
-    let rest = within-from s t room (suc from) l (omega arith) in
+differing-ascending s t zero from l h = ends
+differing-ascending s t (suc room) from l h =
+    let rest = differing-ascending s t room (suc from) l (omega arith) in
     let below : from < l = omega arith in
-    by-test (eqb (bitAt s from) (bitAt t from)) (λ e. rw e rest) (λ e. rw e (each below rest))
+    let here : from ≤ from = omega arith in
+    by-test (eqb (bitAt s from) (bitAt t from)) (λ e. rw e (ascending-from from (omega arith) rest)) (λ e. rw e (next here below rest))
 
-pub difference-within : (s t : List ℕ) → All (λ (p : ℕ). p < bits s) (difference s t)
+pub difference-ascending : (s t : List ℕ) → Ascending (bits s) 0 (difference s t)
 unfolding difference
-difference-within s t = within-from s t (bits s) 0 (bits s) (omega arith)
+difference-ascending s t = differing-ascending s t (bits s) 0 (bits s) (omega arith)
 
 -- ---- their powers of x are the sum of the packets
 
@@ -95,7 +97,7 @@ module _ (s t : List ℕ) (bs : Bytes s) (bt : Bytes t) (same : length s ≡ len
       ∙ xor-shifted (sum / 2 ^ suc from % 2 ^ room) (suc from) (2 ^ from) (omega (arith, pow-pos from))
       ∙ sym (digits-suc sum room from ∙ rw one (omega arith))))
 
-  difference-powers : powers (difference s t) ≡ sum
+  pub difference-powers : powers (difference s t) ≡ bitXor (polynomial s) (polynomial t)
   unfolding difference sum
   difference-powers =
       let e : 256 ^ length s ≡ 2 ^ bits s = byte-power (length s) in
@@ -109,9 +111,44 @@ module _ (s t : List ℕ) (bs : Bytes s) (bt : Bytes t) (same : length s ≡ len
   pub flips-difference : flips s (difference s t) ≡ t
   unfolding sum
   flips-difference =
-      let w = difference-within s t in
+      let w = ascending-all (difference-ascending s t) in
       let e : polynomial (flips s (difference s t)) ≡ polynomial t =
       polynomial-flips s (difference s t) w bs ∙ ap (bitXor (polynomial s)) difference-powers ∙ xor-cancel (polynomial s) (polynomial t) in
       sym (bytes-polynomial (flips s (difference s t)) (flips-bytes s (difference s t) w bs))
       ∙ ap₂ bytes (flips-length s (difference s t) ∙ same) e
       ∙ bytes-polynomial t bt
+
+-- flipping a set of positions twice changes nothing
+pub flips-twice : (t ps : List ℕ) → Bytes t → Ascending (bits t) 0 ps → flips (flips t ps) ps ≡ t
+flips-twice t ps bt h =
+    let w = ascending-all h in
+    let bs = flips-bytes t ps w bt in
+    let v : All (λ (p : ℕ). p < bits (flips t ps)) ps = rw (flips-length t ps) w in
+    let e : polynomial (flips (flips t ps) ps) ≡ polynomial t =
+    polynomial-flips (flips t ps) ps v bs ∙ ap (λ (x : ℕ). bitXor x (powers ps)) (polynomial-flips t ps w bt) ∙ (simp xor-ac) in
+    sym (bytes-polynomial (flips (flips t ps) ps) (flips-bytes (flips t ps) ps v bs))
+    ∙ ap₂ bytes (flips-length (flips t ps) ps ∙ flips-length t ps) e
+    ∙ bytes-polynomial t bt
+
+-- ---- packets that agree from position n on
+
+powers-lt : {ps : List ℕ} (n : ℕ) → All (λ (p : ℕ). p < n) ps → powers ps < 2 ^ n
+unfolding powers
+powers-lt n none = pow-pos n
+powers-lt n (each {x = p} {xs = ps} h hs) = xor-lt n (2 ^ p) (powers ps) (pow-lt {i = p} {j = n} h) (powers-lt n hs)
+
+module _ (s t : List ℕ) (n : ℕ) (agree : (p : ℕ) → n ≤ p → p < bits s → bitAt s p ≡ bitAt t p) where
+  differing-below : (room from : ℕ) → from + room ≤ bits s → All (λ (p : ℕ). p < n) (differing s t room from)
+  unfolding differing
+  differing-below zero from h = none
+  differing-below (suc room) from h =
+      let rest = differing-below room (suc from) (omega arith) in
+      by-test (eqb (bitAt s from) (bitAt t from)) (λ e. rw e rest)
+      (λ e.
+      rw e
+      (by-order from n (λ below. each below rest)
+      (λ high. absurd (eqb-false (bitAt s from) (bitAt t from) e (agree from high (omega arith))))))
+
+  pub agreeing-sum : Bytes s → Bytes t → length s ≡ length t → bitXor (polynomial s) (polynomial t) < 2 ^ n
+  unfolding difference
+  agreeing-sum bs bt same = rw (← difference-powers s t bs bt same) (powers-lt n (differing-below (bits s) 0 (omega arith)))

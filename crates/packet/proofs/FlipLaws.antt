@@ -1,22 +1,22 @@
--- Flipping bits of a packet, as sums of polynomials; and the law on which the search for errors rests: flipping a set
--- of positions changes the remainder by the XOR of their powers of x.
+-- Flipping bits of a packet, as sums of polynomials.
 use mathlib.Core.Path.{_≡_, refl, sym, ap, ap₂, _∙_}
+use mathlib.Core.Logic.{_≢_}
 use mathlib.Core.List.{List, [], _∷_, _++_}
 use Prim.Native.Nat.{ℕ, zero, suc, _+_, _-_, _*_, _/_, _%_, _^_, _<_}
 use native.Mathlib.Omega.{arith}
 use native.Mathlib.Nat.{add-zero, zero-add, mul-assoc, mul-comm, add-mul, pow-suc}
 use lib.Bits.{bitXor, xor-block, xor-lt, xor-zero-r}
+use borrow.Author.Tests.{eqb-true, eqb-false}
+use lib.Dec.{eqb}
 use lib.ListN.{length, getD, take, drop, set, length-set, length-drop}
 use lib.Pow.{pow-add, pow-pos, pow-lt, shr-shr, high, low, field, mod-mod-pow}
 use lib.Arith.{digits-lt}
 use lib.Seq.{set-split, set-getD, getD-drop, getD-set-same, getD-set-other}
 use Rattle.base.specs.Lists.{All, none, each}
-use Rattle.base.proofs.Cases.{by-equal}
-use Rattle.base.proofs.XorLaws.{xor-assoc}
-use Rattle.poly.specs.Polynomial.{rem, degree, powers}
-use Rattle.poly.specs.Generators.{Divisor}
-use Rattle.poly.proofs.DivisionLaws.{rem-xor}
-use Rattle.packet.specs.Packet.{Bytes, bits, polynomial, polynomialAfter, remainder, bitAt, flip, flips}
+use Rattle.base.proofs.Cases.{by-test, by-equal}
+use Rattle.base.proofs.XorLaws.{xor-assoc, xor-other}
+use Rattle.poly.specs.Polynomial.{powers}
+use Rattle.packet.specs.Packet.{Bytes, bits, polynomial, polynomialAfter, bitAt, flip, flips}
 
 -- ---- the polynomial of a joined packet
 
@@ -144,7 +144,35 @@ pub flip-length : (s : List ℕ) (p : ℕ) → length (flip s p) ≡ length s
 unfolding flip
 flip-length s p = length-set s _ _
 
+-- ---- the other bits stay
+
+bitAt-same-byte : (s : List ℕ) (p q : ℕ) → p < bits s → p / 8 ≡ q / 8 → p % 8 ≢ q % 8 → bitAt (flip s p) q ≡ bitAt s q
+unfolding bitAt flip
+bitAt-same-byte s p q hp e h =
+    let i : length s - 1 - p / 8 < length s = omega arith in
+    rw (length-set, ← e, getD-set-same s (length s - 1 - p / 8) _ 0 i) (xor-other (getD s (length s - 1 - p / 8) 0) (p % 8) (q % 8) h)
+
+bitAt-other-byte : (s : List ℕ) (p q : ℕ) → p < bits s → q < bits s → p / 8 ≢ q / 8 → bitAt (flip s p) q ≡ bitAt s q
+unfolding bitAt flip
+bitAt-other-byte s p q hp hq h =
+    let i : length s - 1 - q / 8 ≢ length s - 1 - p / 8 = λ e. h (omega arith) in
+    rw (length-set, getD-set-other s (length s - 1 - p / 8) (length s - 1 - q / 8) _ 0 i) refl
+
+pub bitAt-flip-other : (s : List ℕ) (p q : ℕ) → p < bits s → q < bits s → p ≢ q → bitAt (flip s p) q ≡ bitAt s q
+bitAt-flip-other s p q hp hq h =
+    by-test (eqb (p / 8) (q / 8))
+    (λ t. let e = eqb-true _ _ t in bitAt-same-byte s p q hp e (λ m. h (omega arith)))
+    (λ t. bitAt-other-byte s p q hp hq (eqb-false _ _ t))
+
 -- ---- several positions
+
+pub flips-nil : (s : List ℕ) → flips s [] ≡ s
+unfolding flips
+flips-nil s = refl
+
+pub flips-cons : (s : List ℕ) (p : ℕ) (ps : List ℕ) → flips s (p ∷ ps) ≡ flips (flip s p) ps
+unfolding flips
+flips-cons s p ps = refl
 
 pub flips-length : (s ps : List ℕ) → length (flips s ps) ≡ length s
 unfolding flips
@@ -163,10 +191,3 @@ polynomial-flips s (p ∷ ps) (each l ls) h =
     polynomial-flips (flip s p) ps (rw (flip-length s p) ls) (flip-bytes s p l h)
     ∙ ap (λ (x : ℕ). bitXor x (powers ps)) (polynomial-flip s p l h)
     ∙ xor-assoc (polynomial s) (2 ^ p) (powers ps)
-
--- flipping a set of positions changes the remainder by the XOR of their powers of x
-pub remainder-flips : (g : ℕ) (s ps : List ℕ) → Divisor (degree g) g → All (λ (p : ℕ). p < bits s) ps → Bytes s
-    → remainder g (flips s ps) ≡ bitXor (remainder g s) (rem (degree g) g (powers ps))
-unfolding remainder
-remainder-flips g s ps d l h =
-    ap (rem (degree g) g) (polynomial-flips s ps l h) ∙ rem-xor (degree g) g (d .low) (d .high) (polynomial s) (powers ps)

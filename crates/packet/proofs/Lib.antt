@@ -1,6 +1,6 @@
 pub mod PacketLaws
-pub mod AdmitLaws
-pub mod StepLaws
+pub mod CancelLaws
 pub mod FlipLaws
-pub mod SealLaws
 pub mod DifferenceLaws
+pub mod RemainderLaws
+pub mod SealLaws

@@ -9,9 +9,10 @@ use lib.Bits.{bitXor, xor-block, xor-lt}
 use lib.ListN.{length, getD, take, drop, set, length-append}
 use lib.Seq.{take-suc, take-length, drop-cons, getD-take, getD-set-same, drop-set-lt, lt-length-set}
 use mathlib.Core.Bool.{true, false, true≢false, or-true}
-use borrow.Author.Tests.{lt-ltb, le-ltb, le-leb, lt-leb}
+use borrow.Author.Tests.{lt-ltb, le-leb, lt-leb}
 use Rattle.base.proofs.Cases.{by-order}
-use Rattle.packet.specs.Packet.{Bytes, polynomial, polynomialAfter, bytes, unfitLength}
+use lib.Dec.{ltb}
+use Rattle.packet.specs.Packet.{Bytes, polynomial, polynomialAfter, bytes, mostBits, unfitLength}
 
 polynomialAfter-snoc : (v : ℕ) (s : List ℕ) (b : ℕ) → polynomialAfter v (s ++ (b ∷ [])) ≡ polynomialAfter v s * 256 + b
 unfolding polynomialAfter
@@ -99,7 +100,7 @@ add-low-step q p i left b h l e =
 
 -- ---- condition 2
 
-pub long-unfit : (n l : ℕ) → 4096 < l → unfitLength n l ≡ true
+pub long-unfit : (n l : ℕ) → mostBits < l → unfitLength n l ≡ true
 unfolding unfitLength
 long-unfit n l h = simp (lt-ltb _ _ h, or-true)
 
@@ -107,12 +108,12 @@ pub short-unfit : (n l : ℕ) → l ≤ n → unfitLength n l ≡ true
 unfolding unfitLength
 short-unfit n l h = simp (le-leb _ _ h)
 
-pub length-fit : (n l : ℕ) → n < l → l ≤ 4096 → unfitLength n l ≡ false
+pub longer-unfit : (n l : ℕ) → n < l → unfitLength n l ≡ ltb mostBits l
 unfolding unfitLength
-length-fit n l h k = simp (lt-leb _ _ h, le-ltb _ _ k)
+longer-unfit n l h = simp (lt-leb _ _ h)
 
-pub fit-length : (n l : ℕ) → unfitLength n l ≡ false → (n < l) × (l ≤ 4096)
+pub fit-length : (n l : ℕ) → unfitLength n l ≡ false → (n < l) × (l ≤ mostBits)
 fit-length n l e =
     by-order n l
-    (λ h. by-order 4096 l (λ k. absurd (true≢false (sym (long-unfit n l k) ∙ e))) (λ k. (h, k)))
+    (λ h. by-order mostBits l (λ k. absurd (true≢false (sym (long-unfit n l k) ∙ e))) (λ k. (h, k)))
     (λ h. absurd (true≢false (sym (short-unfit n l h) ∙ e)))

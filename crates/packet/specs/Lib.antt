@@ -1,3 +1,3 @@
 pub mod Packet
 pub mod Calls
-pub mod Steps
+pub mod Cancelling

@@ -1,4 +1,4 @@
--- A packet of bytes as a binary polynomial: position 0 is the lowest bit of the last byte.
+-- A packet of bytes as a binary polynomial; positions are counted from its end, the lowest bit first.
 use Prim.Native.Nat.{ℕ, zero, suc, _+_, _-_, _*_, _/_, _%_, _^_, _<_}
 use mathlib.Core.Bool.{Bool, _||_}
 use mathlib.Core.List.{List, [], _∷_, _++_}
@@ -6,7 +6,9 @@ use lib.Bits.{bitXor}
 use lib.Dec.{leb, ltb, eqb}
 use lib.ListN.{length, getD, set}
 use Rattle.base.specs.Outcome.{pick}
-use Rattle.poly.specs.Polynomial.{degree, rem}
+use Rattle.poly.specs.Polynomial.{rem}
+use Rattle.poly.specs.Generators.{generatorOf}
+use Rattle.packet.specs.declared.Crc.{Crc}
 
 -- the elements are bytes
 abbrev pub Bytes : List ℕ → Type 0
@@ -30,17 +32,25 @@ bytes (suc k) v = bytes k (v / 256) ++ (v % 256 ∷ [])
 abbrev pub bits : List ℕ → ℕ
 bits s = 8 * length s
 
+-- the longest packet
+abbrev pub mostBits : ℕ
+mostBits = 4096
+
 -- condition 2, for a generator of degree n
 unfoldable pub unfitLength : ℕ → ℕ → Bool
-unfitLength n l = leb l n || ltb 4096 l
+unfitLength n l = leb l n || ltb mostBits l
+
+-- what the CRC of a generator is taken by
+abbrev pub crcOf : ℕ → Crc
+crcOf g = record { generator = generatorOf g }
 
 -- the remainder, or syndrome, of a packet
-unfoldable pub remainder : ℕ → List ℕ → ℕ
-remainder g s = rem (degree g) g (polynomial s)
+unfoldable pub remainder : Crc → List ℕ → ℕ
+remainder c s = rem (c .generator .degree) (c .generator .coefficients) (polynomial s)
 
 -- the packet whose last n bits are set so that its remainder is 0; SealLaws has that it is the only one
-unfoldable pub sealed : ℕ → List ℕ → List ℕ
-sealed g s = bytes (length s) (bitXor (polynomial s) (remainder g s))
+unfoldable pub sealed : Crc → List ℕ → List ℕ
+sealed c s = bytes (length s) (bitXor (polynomial s) (remainder c s))
 
 -- the bit at a position
 unfoldable pub bitAt : List ℕ → ℕ → ℕ

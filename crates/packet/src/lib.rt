@@ -1,25 +1,41 @@
-// Remainders and seals of packets.
+// Remainders and seals of packets, and bits that flip.
+use base::Judgement;
 use base::Refusal;
-use poly::Construction;
 use poly::Generator;
 ghost use mathlib.Core.Path.{_≡_};
-ghost use mathlib.Core.List.{List};
-ghost use Prim.Native.Nat.{ℕ, suc, _+_, _*_, _^_, _<_, _≤_};
+ghost use Prim.Native.Nat.{ℕ, suc, _+_, _*_, _^_, _<_};
 ghost use lib.ListN.{length};
 ghost use lib.Bits.{bitXor};
-ghost use Rattle.base.specs.Outcome.{refused, accepted, judge};
-ghost use Rattle.poly.specs.Generators.{construction, generatorOf, Divisor};
-ghost use Rattle.poly.specs.Polynomial.{rem, degree};
-ghost use Rattle.packet.specs.Packet.{Bytes, polynomial, bytes};
-ghost use Rattle.packet.specs.Steps.{Cancelled};
+ghost use Rattle.base.specs.Lists.{All};
+ghost use Rattle.base.specs.Judged.{judgement, judged};
+ghost use Rattle.poly.specs.Fit.{Fit};
+ghost use Rattle.poly.specs.Polynomial.{rem};
+ghost use Rattle.packet.specs.Packet.{
+  Bytes,
+  polynomial,
+  bytes,
+  bits,
+  unfitLength,
+  crcOf,
+  remainder,
+  bitAt,
+  flip,
+  flips,
+};
+ghost use Rattle.packet.specs.Cancelling.{Cancelled};
 ghost use Rattle.packet.specs.Calls.{
-  admitted,
+  packetConditions,
   remainderAnswer,
   remainderCall,
   sealAnswer,
   sealCall,
   sealPacket,
 };
+
+// What a CRC is taken by.
+pub struct Crc {
+    pub generator: Generator,
+}
 
 pub enum RemainderAnswer {
     Remainder(u64),
@@ -31,41 +47,45 @@ pub enum SealAnswer {
     Refused(Refusal),
 }
 
-// Conditions 1 and 2, for `bits` bits; else the generator with its degree.
-pub fn admit_bits(generator: u64, bits: usize) -> Construction
-    ensures { λ r. ⌜ construction r ≡ admitted generator bits ⌝ }
+// The longest packet, in bytes; the definitions count its bits.
+pub const MOST_BYTES: usize = 512;
+
+pub const MOST_BITS: usize = 8 * MOST_BYTES;
+
+// What a CRC is taken by, from the numbers given, whether they are accepted or not.
+pub fn crc_of(generator: u64) -> Crc
+    ensures { λ r. ⌜ r ≡ crcOf generator ⌝ }
 {
-    let made = Generator::new(generator);
-    match made {
-        Construction::Refused(r) => Construction::Refused(r),
-        Construction::Made(g) => {
-            if 4096 < bits {
-                return Construction::Refused(Refusal::Length);
-            }
-            if bits <= g.degree as usize {
-                return Construction::Refused(Refusal::Length);
-            }
-            Construction::Made(g)
-        }
-    }
+    let made = Generator::of(generator);
+    Crc { generator: made }
 }
 
-// The same for a packet of `len` bytes; any length past the limit is judged as the first past it.
-pub fn admit(generator: u64, len: usize) -> Construction
-    ensures { λ r. ⌜ construction r ≡ admitted generator (8 * len) ⌝ }
+// Condition 2, for `bits` bits.
+pub fn unfit_bits(g: Generator, bits: usize) -> bool
+    ensures { λ r. ⌜ r ≡ unfitLength (g .degree) bits ⌝ }
 {
-    if 512 < len {
-        return admit_bits(generator, 4097);
+    if bits <= g.degree as usize {
+        return true;
     }
-    admit_bits(generator, 8 * len)
+    MOST_BITS < bits
+}
+
+// The same for a packet of `len` bytes, of any number.
+pub fn unfit_bytes(g: Generator, len: usize) -> bool
+    ensures { λ r. ⌜ r ≡ unfitLength (g .degree) (8 * len) ⌝ }
+{
+    if MOST_BYTES < len {
+        return true;
+    }
+    unfit_bits(g, 8 * len)
 }
 
 // Takes x^(n + j) out of v, where it is there: v less x^j times the generator.
 fn cancel(g: Generator, v: u64, j: u32) -> u64
-    requires { ⌜ Divisor (g .degree) (g .bits) × ((g .degree ≤ 16) × ((j < 8) × (v < 2 ^ (g .degree + suc j)))) ⌝ }
-    ensures { λ r. ⌜ Cancelled (g .degree) (g .bits) v j r ⌝ }
+    requires { ⌜ Fit g × ((j < 8) × (v < 2 ^ (g .degree + suc j))) ⌝ }
+    ensures { λ r. ⌜ Cancelled (g .degree) (g .coefficients) v j r ⌝ }
 {
-    let bits = g.bits;
+    let bits = g.coefficients;
     let degree = g.degree;
     if v >> (degree + j) == 0 {
         v
@@ -76,8 +96,8 @@ fn cancel(g: Generator, v: u64, j: u32) -> u64
 
 // The remainder of r * x^8 + b.
 fn append(g: Generator, r: u64, b: u64) -> u64
-    requires { ⌜ Divisor (g .degree) (g .bits) × ((g .degree ≤ 16) × ((r < 2 ^ g .degree) × (b < 256))) ⌝ }
-    ensures { λ t. ⌜ t ≡ rem (g .degree) (g .bits) (r * 256 + b) ⌝ }
+    requires { ⌜ Fit g × ((r < 2 ^ g .degree) × (b < 256)) ⌝ }
+    ensures { λ t. ⌜ t ≡ rem (g .degree) (g .coefficients) (r * 256 + b) ⌝ }
 {
     let mut v = r * 256 + b;
     let mut j: u32 = 8;
@@ -88,10 +108,10 @@ fn append(g: Generator, r: u64, b: u64) -> u64
     v
 }
 
-// The remainder of a packet of any length.
-pub fn remainder_of(g: Generator, packet: &[u8]) -> u64
-    requires { ⌜ Divisor (g .degree) (g .bits) × (g .degree ≤ 16) ⌝ }
-    ensures { λ r. ⌜ r ≡ rem (g .degree) (g .bits) (polynomial (now (packet .entry))) ⌝ }
+// The remainder that the generator leaves of the bytes alone.
+fn divide(g: Generator, packet: &[u8]) -> u64
+    requires { ⌜ Fit g ⌝ }
+    ensures { λ r. ⌜ r ≡ rem (g .degree) (g .coefficients) (polynomial (now (packet .entry))) ⌝ }
 {
     let mut r: u64 = 0;
     let mut i = 0;
@@ -100,6 +120,15 @@ pub fn remainder_of(g: Generator, packet: &[u8]) -> u64
         i += 1;
     }
     r
+}
+
+// The remainder of a packet of any length.
+pub fn remainder_of(crc: Crc, packet: &[u8]) -> u64
+    requires { ⌜ Fit (crc .generator) ⌝ }
+    ensures { λ r. ⌜ r ≡ remainder crc (now (packet .entry)) ⌝ }
+{
+    let g = crc.generator;
+    divide(g, packet)
 }
 
 // XORs a number into the packet's last bytes.
@@ -119,27 +148,70 @@ fn add_low(packet: &mut [u8], value: u64)
     }
 }
 
-pub fn remainder(generator: u64, packet: &[u8]) -> RemainderAnswer
-    ensures { λ r. ⌜ remainderAnswer r ≡ remainderCall generator (now (packet .entry)) ⌝ }
+// The conditions of remainder and seal, in their order.
+fn judge_packet(generator: u64, len: usize) -> Judgement
+    ensures { λ r. ⌜ judgement r ≡ judged (packetConditions (crcOf generator) (8 * len)) ⌝ }
 {
-    let made = admit(generator, packet.len());
-    match made {
-        Construction::Refused(r) => RemainderAnswer::Refused(r),
-        Construction::Made(g) => RemainderAnswer::Remainder(remainder_of(g, packet)),
+    if poly::unfit_generator(generator) {
+        return Judgement::Refused(Refusal::Generator);
+    }
+    if unfit_bytes(Generator::of(generator), len) {
+        return Judgement::Refused(Refusal::Length);
+    }
+    Judgement::Passed
+}
+
+pub fn remainder(generator: u64, packet: &[u8]) -> RemainderAnswer
+    ensures { λ r. ⌜ remainderAnswer r ≡ remainderCall (crcOf generator) (now (packet .entry)) ⌝ }
+{
+    let judged = judge_packet(generator, packet.len());
+    match judged {
+        Judgement::Refused(r) => RemainderAnswer::Refused(r),
+        Judgement::Passed => { RemainderAnswer::Remainder(remainder_of(crc_of(generator), packet)) }
     }
 }
 
 pub fn seal(generator: u64, packet: &mut [u8]) -> SealAnswer
-    ensures answer { λ r. ⌜ sealAnswer r ≡ sealCall generator (now (packet .entry)) ⌝ }
-    ensures bytes { λ _. ⌜ now (packet .exit) ≡ sealPacket generator (now (packet .entry)) ⌝ }
+    ensures answer { λ r. ⌜ sealAnswer r ≡ sealCall (crcOf generator) (now (packet .entry)) ⌝ }
+    ensures bytes { λ _. ⌜ now (packet .exit) ≡ sealPacket (crcOf generator) (now (packet .entry)) ⌝ }
 {
-    let made = admit(generator, packet.len());
-    match made {
-        Construction::Refused(r) => SealAnswer::Refused(r),
-        Construction::Made(g) => {
-            let r = remainder_of(g, packet);
+    let judged = judge_packet(generator, packet.len());
+    match judged {
+        Judgement::Refused(r) => SealAnswer::Refused(r),
+        Judgement::Passed => {
+            let r = remainder_of(crc_of(generator), packet);
             add_low(packet, r);
             SealAnswer::Sealed
         }
+    }
+}
+
+// The bit at a position.
+pub fn bit_of(packet: &[u8], p: usize) -> u64
+    requires { ⌜ p < bits (now packet) ⌝ }
+    ensures { λ r. ⌜ (r ≡ bitAt (now (packet .entry)) p) × (r < 2) ⌝ }
+{
+    let b = packet[packet.len() - 1 - p / 8] as u64;
+    (b >> (p % 8)) % 2
+}
+
+// Flips the bit at a position.
+fn flip_bit(packet: &mut [u8], p: usize)
+    requires { ⌜ p < bits (now packet) ⌝ }
+    ensures { λ _. ⌜ now (packet .exit) ≡ flip (now (packet .entry)) p ⌝ }
+{
+    let i = packet.len() - 1 - p / 8;
+    packet[i] = packet[i] ^ (1u8 << (p % 8));
+}
+
+// Flips the bits at the given positions.
+pub fn flip_bits(packet: &mut [u8], pos: &[u16])
+    requires { ⌜ All (λ (p : ℕ). p < bits (now packet)) (now pos) ⌝ }
+    ensures { λ _. ⌜ now (packet .exit) ≡ flips (now (packet .entry)) (now (pos .entry)) ⌝ }
+{
+    let mut i: usize = 0;
+    while i < pos.len() {
+        flip_bit(packet, pos[i] as usize);
+        i += 1;
     }
 }

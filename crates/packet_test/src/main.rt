@@ -37,17 +37,11 @@ fn answer(text: &[u8], at: usize, generator: u64, packet: &mut [u8]) -> usize {
 
 // One case from `at` on; the answer is the place behind it.
 fn case(text: &[u8], at: usize) -> usize {
-    let high = testkit::number(text, at);
-    let low = testkit::number(text, high.next);
-    let len = testkit::number(text, low.next);
+    let generator = testkit::wide(text, at);
+    let len = testkit::number(text, generator.next);
     let mut space = [0u8; 1024];
     let n = io::count(len.value as isize, &space);
-    answer(
-        text,
-        len.next,
-        high.value * 4294967296 + low.value,
-        &mut space[..n],
-    )
+    answer(text, len.next, generator.value, &mut space[..n])
 }
 
 fn cases(text: &[u8]) {

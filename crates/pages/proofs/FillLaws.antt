@@ -1,22 +1,25 @@
 -- A page under way: which patterns are done and which are left, what the output holds, and how it ends.
 use mathlib.Core.Path.{_≡_, refl, sym, ap, _∙_}
 use mathlib.Core.List.{List, [], _∷_, _++_, append-nil}
-use Prim.Native.Nat.{ℕ, zero, _+_, _*_, _-_, _<_, _≤_}
+use Prim.Native.Nat.{ℕ, _+_, _*_, _-_, _<_, _≤_}
 use native.Mathlib.Omega.{arith}
 use native.Mathlib.Nat.{sub-zero}
-use lib.ListN.{length, take, drop, length-append, length-take}
+use lib.ListN.{length, take, drop, length-append}
 use lib.Seq.{append-snoc, length-take-le, take-all}
-use Rattle.patterns.specs.Patterns.{Place, ended, after, positions}
+use Rattle.base.specs.Lists.{Ascending}
+use Rattle.patterns.specs.Patterns.{mostPositions, Place, ended, after, positions}
 use Rattle.patterns.specs.Order.{before}
-use Rattle.patterns.specs.Listing.{Ascending, sift}
-use Rattle.patterns.specs.Pages.{records, recordOf, fitting, lastOf, nextPlace, Page, pageOf, pageBytes}
-use Rattle.patterns.specs.RecordPut.{RecordPut}
+use Rattle.patterns.specs.Listing.{sift}
+use Rattle.patterns.specs.Records.{records, recordOf}
+use Rattle.patterns.specs.Pages.{fitting, lastOf, nextPlace, Page, pageOf, pageBytes}
+use Rattle.patterns.specs.Slices.{RecordPut}
 use Rattle.patterns.specs.declared.Pattern.{Pattern}
 use Rattle.patterns.proofs.PageLaws.{record-length, records-longer, page-put, fitting-on, fitting-off, fitting-out, next-ended, next-after}
 use Rattle.search.specs.Search.{Told}
 use Rattle.search.specs.declared.Found.{Found}
 use Rattle.search.specs.declared.Found.the-variants.{At, Nothing}
-use Rattle.pages.specs.Filling.{FoundFits, aheadOf}
+use Rattle.cursor.specs.Cursors.{FoundFits, aheadOf}
+use Rattle.cursor.proofs.AheadLaws.{told-ahead-of}
 
 -- `out` is the output at first and `cur` now; `rest` is what the page is about, and `m` the limit
 pub record Filling (l m : ℕ) (xs rest : List (List ℕ)) (out pos cur : List ℕ) (ahead : Found) (last : Pattern) (used written : ℕ) : Type 0 where
@@ -38,10 +41,6 @@ last-snoc : (p : List ℕ) (xs : List (List ℕ)) (q : List ℕ) → lastOf p (x
 unfolding lastOf
 last-snoc p [] q = refl
 last-snoc p (x ∷ xs) q = last-snoc x xs q
-
-pub told-ahead-of : (l m : ℕ) (xs : List (List ℕ)) (r : Found) (pos : List ℕ) → FoundFits l r pos → length pos ≡ m → Told l m xs (aheadOf xs r pos) r pos
-told-ahead-of l m xs (At k) pos h e = (record { split = refl; ascends = h .1 }, omega (arith, h .0))
-told-ahead-of l m xs Nothing pos h e = refl
 
 -- nothing done yet
 pub filling-none : (l : ℕ) (xs : List (List ℕ)) (out pos : List ℕ) (r : Found) (last : Pattern) → FoundFits l r pos → positions last ≡ []
@@ -122,7 +121,7 @@ module _ {l m : ℕ} {xs rest : List (List ℕ)} {out pos cur : List ℕ} {ahead
     fits-room h = rw (length-take-le k pos (found-within .0)) (omega (arith, f .long, f .room))
 
     -- one pattern more
-    pub filling-more : 1 + 2 * k ≤ length out - used → m ≤ 4 → (q : Pattern) → positions q ≡ take 4 (take k pos)
+    pub filling-more : 1 + 2 * k ≤ length out - used → m ≤ mostPositions → (q : Pattern) → positions q ≡ take mostPositions (take k pos)
         → (next : ℕ) (cur' pos' : List ℕ) → RecordPut (take k pos) cur used cur' next → (r : Found) → Told l m xs (sift (before (take k pos)) xs) r pos'
         → length pos' ≡ m → length cur' ≡ length out → Filling l m xs rest out pos' cur' r q next (written + 1)
     filling-more h four q named next cur' pos' put r t p c =
@@ -139,7 +138,7 @@ module _ {l m : ℕ} {xs rest : List (List ℕ)} {out pos cur : List ℕ} {ahead
           bytes = put .bytes ∙ rw (f .taken) (page-put d s out cur (f .bytes));
           room = omega (arith, put .behind, size, f .room);
           small = omega (arith, put .behind, size, f .small);
-          named = named ∙ take-all 4 s (rw (length-take-le k pos (found-within .0)) (omega (arith, found .1))) ∙ sym (last-snoc [] d s);
+          named = named ∙ take-all mostPositions s (rw (length-take-le k pos (found-within .0)) (omega (arith, found .1))) ∙ sym (last-snoc [] d s);
           fits =
               fitting-on (length out) d s (sift (before s) xs) (fitting (length out) rest) (rw (found .0 .split) at (f .fits))
               (omega (arith, f .taken, f .room, size));

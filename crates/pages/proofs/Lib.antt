@@ -1,5 +1,4 @@
-pub mod SearchLaws
 pub mod FillLaws
-pub mod LookupLaws
-pub mod CallLaws
+pub mod ConditionLaws
+pub mod PageTheorem
 pub mod SequenceTheorem

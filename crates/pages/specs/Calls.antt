@@ -7,8 +7,7 @@ use Rattle.poly.specs.Polynomial.{degree}
 use Rattle.patterns.specs.Patterns.{Place, placeOf}
 use Rattle.patterns.specs.Listing.{listing}
 use Rattle.patterns.specs.Marks.{remaining}
-use Rattle.patterns.specs.Pages.{Page}
-use Rattle.patterns.specs.Sequences.{pageAnswer, pageOutput}
+use Rattle.patterns.specs.Pages.{Page, pagedBy, leftBy}
 use Rattle.pages.specs.Conditions.{Request, pageConditions}
 use Rattle.pages.specs.declared.PageResult.{PageResult}
 use Rattle.pages.specs.declared.PageAnswer.{PageAnswer}
@@ -18,16 +17,17 @@ use Rattle.pages.specs.declared.PageAnswer.the-variants.{Paged, Refused}
 abbrev pub pageResult : PageResult → Page
 pageResult r = record { used = r .used; written = r .written; next = placeOf (r .next) }
 
-abbrev pub answered : PageAnswer → Outcome Page
-answered (Paged r) = accepted (pageResult r)
-answered (Refused r) = refused (number r)
+abbrev pub pageAnswer : PageAnswer → Outcome Page
+pageAnswer (Paged r) = accepted (pageResult r)
+pageAnswer (Refused r) = refused (number r)
 
 -- the list that a call pages through
 abbrev pub requested : Request → List (List ℕ)
 requested r = listing (degree (r .generator)) (r .generator) (r .bits) (r .limit) (r .syndrome)
 
 abbrev pub pageCall : Request → Place → Outcome Page
-pageCall r mark = pageAnswer (pageConditions r mark) (remaining (requested r) mark) (r .output)
+pageCall r mark = pagedBy (pageConditions r mark) (remaining (requested r) mark) (r .output)
 
+-- the output after the call
 abbrev pub pageLeft : Request → Place → List ℕ
-pageLeft r mark = pageOutput (pageConditions r mark) (remaining (requested r) mark) (r .output)
+pageLeft r mark = leftBy (pageConditions r mark) (remaining (requested r) mark) (r .output)

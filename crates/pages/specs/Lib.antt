@@ -1,5 +1,3 @@
 pub mod Conditions
 pub mod Calls
-pub mod Judged
-pub mod Filling
 pub mod Sequences

@@ -1,9 +1,9 @@
--- Demand 3's sequence of page calls: generator, length, limit and syndrome stay, tables and output may be others at each call.
+-- A sequence of page calls: generator, length, limit and syndrome stay, tables and output may be others at each call.
 use Prim.Native.Nat.{ℕ}
 use mathlib.Core.List.{List}
 use Rattle.patterns.specs.Patterns.{start}
 use Rattle.patterns.specs.Sequences.{Call, calls}
-use Rattle.pages.specs.Conditions.{Request}
+use Rattle.pages.specs.Conditions.{Request, pageRequest}
 use Rattle.pages.specs.Calls.{pageCall, pageLeft}
 
 -- what is lent anew at each call
@@ -15,15 +15,7 @@ pub record Lending : Type 0 where
 -- the request of a call: what stays, and what is lent
 abbrev pub requestWith : ℕ → ℕ → ℕ → ℕ → Lending → Request
 requestWith generator bits limit syndrome lent =
-    record {
-      generator = generator;
-      bits = bits;
-      limit = limit;
-      syndrome = syndrome;
-      steps = lent .steps;
-      firsts = lent .firsts;
-      output = lent .output;
-    }
+    pageRequest generator bits limit syndrome (lent .steps) (lent .firsts) (lent .output)
 
 -- the accepted ones among the page calls of some lendings: the first is given Start, and each the mark reached
 abbrev pub acceptedCalls : ℕ → ℕ → ℕ → ℕ → List Lending → List Call

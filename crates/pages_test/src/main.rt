@@ -10,9 +10,6 @@ use pages::PageAnswer;
 use pages::PageResult;
 use patterns::Mark;
 use patterns::Pattern;
-use tables::TablesAnswer;
-use testkit::Reading;
-ghost use Prim.Native.Nat.{_≤_};
 
 // What every call of a sequence is given.
 struct Setting {
@@ -46,39 +43,9 @@ struct Marked {
     next: usize,
 }
 
-// A number given by its high and low 32 bits.
-fn wide(text: &[u8], at: usize) -> Reading {
-    let high = testkit::number(text, at);
-    let low = testkit::number(text, high.next);
-    Reading {
-        value: high.value * 4294967296 + low.value,
-        next: low.next,
-    }
-}
-
 // The sum of two numbers of 32 bits.
 fn sum(a: u64, b: u64) -> u64 {
     a % 4294967296 + b % 4294967296
-}
-
-fn least(n: usize, most: usize) -> usize
-    ensures { λ r. ⌜ r ≤ most ⌝ }
-{
-    if n < most {
-        return n;
-    }
-    most
-}
-
-// The 32-bit FNV-1a hash, carried on from the bytes before.
-fn mix(before: u64, bytes: &[u8]) -> u64 {
-    let mut h = before % 4294967296;
-    let mut i = 0;
-    while i < bytes.len() {
-        h = (h ^ bytes[i] as u64) * 16777619 % 4294967296;
-        i += 1;
-    }
-    h
 }
 
 fn mark_of(kind: u64, a: u16, b: u16, c: u16, d: u16) -> Mark {
@@ -117,32 +84,14 @@ fn is_ended(mark: Mark) -> bool {
     }
 }
 
-fn wide_position(p: u16) -> u64 {
-    p as u64
-}
-
-fn print_positions(pos: &[u16]) {
-    let mut i = 0;
-    while i < pos.len() {
-        testkit::print_number(wide_position(pos[i]), b' ');
-        i += 1;
-    }
-}
-
-fn print_pattern(p: Pattern) {
-    let held = patterns::spread(p);
-    let n = least(patterns::count_of(p), 4);
-    print_positions(&held[..n]);
-    testkit::print(b"\n");
-}
-
 fn print_mark(mark: Mark) {
     match mark {
         Mark::Start => testkit::print(b"start\n"),
         Mark::Ended => testkit::print(b"ended\n"),
         Mark::After(p) => {
             testkit::print(b"after ");
-            print_pattern(p);
+            testkit::print_pattern(p);
+            testkit::print(b"\n");
         }
     }
 }
@@ -153,7 +102,7 @@ fn turned_down(run: Run, number: u64, out: &[u8]) -> Run {
     Run {
         mark,
         used: run.used,
-        beyond: mix(run.beyond, out),
+        beyond: testkit::mix(run.beyond, out),
         records: run.records,
         calls: sum(run.calls, 1),
         refusals: sum(run.refusals, number),
@@ -162,12 +111,12 @@ fn turned_down(run: Run, number: u64, out: &[u8]) -> Run {
 }
 
 fn written(run: Run, page: PageResult, out: &[u8]) -> Run {
-    let n = least(page.used, out.len());
+    let n = testkit::least(page.used, out.len());
     let next = page.next;
     Run {
         mark: next,
-        used: mix(run.used, &out[..n]),
-        beyond: mix(run.beyond, &out[n..]),
+        used: testkit::mix(run.used, &out[..n]),
+        beyond: testkit::mix(run.beyond, &out[n..]),
         records: sum(run.records, page.written),
         calls: sum(run.calls, 1),
         refusals: run.refusals,
@@ -190,7 +139,7 @@ fn call(set: Setting, steps: &[u16], firsts: &[u16], run: Run, out: &mut [u8]) -
         out,
     );
     match answer {
-        PageAnswer::Refused(r) => turned_down(run, base::number_of(r), out),
+        PageAnswer::Refused(r) => turned_down(run, base::number_of(r) as u64, out),
         PageAnswer::Paged(page) => written(run, page, out),
     }
 }
@@ -204,7 +153,7 @@ fn call_in(
     run: Run,
     space: &mut [u8],
 ) -> Run {
-    let n = least(room, space.len());
+    let n = testkit::least(room, space.len());
     call(set, steps, firsts, run, &mut space[..n])
 }
 
@@ -283,8 +232,8 @@ fn sequences(
 ) -> Run {
     let mut run = Run {
         mark,
-        used: 2166136261,
-        beyond: 2166136261,
+        used: testkit::UNMIXED,
+        beyond: testkit::UNMIXED,
         records: 0,
         calls: 0,
         refusals: 0,
@@ -318,10 +267,10 @@ fn print_run(run: Run) {
 
 // One case from `at` on; the answer is the place behind it.
 fn case(text: &[u8], at: usize, steps: &[u16], firsts: &[u16], space: &mut [u8]) -> usize {
-    let generator = wide(text, at);
-    let bits = wide(text, generator.next);
-    let limit = wide(text, bits.next);
-    let syndrome = wide(text, limit.next);
+    let generator = testkit::wide(text, at);
+    let bits = testkit::wide(text, generator.next);
+    let limit = testkit::wide(text, bits.next);
+    let syndrome = testkit::wide(text, limit.next);
     let span = testkit::number(text, syndrome.next);
     let first = read_mark(text, span.next);
     let base = testkit::number(text, first.next);
@@ -361,57 +310,13 @@ fn cases(
     next
 }
 
-fn build(generator: u64, steps: &mut [u16], firsts: &mut [u16]) {
-    match tables::tables(generator, steps, firsts) {
-        TablesAnswer::Built(period) => testkit::print_number(period, b'\n'),
-        TablesAnswer::Refused(r) => testkit::print_refused(r, b'\n'),
-    }
-}
-
-fn change(table: &mut [u16], at: usize, by: u16) {
-    if at < table.len() {
-        table[at] = table[at] ^ by;
-    }
-}
-
-// The tables of a generator, in so many entries of both slices.
-fn build_in(generator: u64, size: usize, steps: &mut [u16], firsts: &mut [u16]) {
-    if steps.len() < size {
-        return;
-    }
-    if firsts.len() < size {
-        return;
-    }
-    build(generator, &mut steps[..size], &mut firsts[..size]);
-}
-
-fn prepare(text: &[u8], at: usize, steps: &mut [u16], firsts: &mut [u16]) -> usize {
-    let generator = wide(text, at);
-    let size = testkit::number(text, generator.next);
-    build_in(generator.value, size.value as usize, steps, firsts);
-    size.next
-}
-
-// One entry of a table changed.
-fn spoil(text: &[u8], at: usize, steps: &mut [u16], firsts: &mut [u16]) -> usize {
-    let which = testkit::number(text, at);
-    let place = testkit::number(text, which.next);
-    let by = testkit::number(text, place.next);
-    if which.value == 0 {
-        change(steps, place.value as usize, (by.value % 65536) as u16);
-        return by.next;
-    }
-    change(firsts, place.value as usize, (by.value % 65536) as u16);
-    by.next
-}
-
 // The cases of a group, with so many entries of each table.
 fn lend(text: &[u8], at: usize, steps: &[u16], firsts: &[u16], space: &mut [u8]) -> usize {
     let s = testkit::number(text, at);
     let f = testkit::number(text, s.next);
     let count = testkit::number(text, f.next);
-    let n = least(s.value as usize, steps.len());
-    let m = least(f.value as usize, firsts.len());
+    let n = testkit::least(s.value as usize, steps.len());
+    let m = testkit::least(f.value as usize, firsts.len());
     cases(
         text,
         count.next,
@@ -424,9 +329,8 @@ fn lend(text: &[u8], at: usize, steps: &[u16], firsts: &[u16], space: &mut [u8])
 
 // One group from `at` on; the answer is the place behind it.
 fn group(text: &[u8], at: usize, steps: &mut [u16], firsts: &mut [u16], space: &mut [u8]) -> usize {
-    let made = prepare(text, at, steps, firsts);
-    let spoilt = spoil(text, made, steps, firsts);
-    lend(text, spoilt, steps, firsts, space)
+    let next = testkit::prepare(text, at, steps, firsts);
+    lend(text, next, steps, firsts, space)
 }
 
 fn groups(text: &[u8], steps: &mut [u16], firsts: &mut [u16], space: &mut [u8]) {

@@ -9,8 +9,13 @@ use native.Mathlib.Nat.{mul-le-mul-left}
 use lib.ListN.{length, length-append}
 use lib.Dec.{eqb}
 use Rattle.patterns.specs.Listing.{syndrome, choose, upTo, listing}
-use Rattle.patterns.specs.Binomial.{binomial}
 use Rattle.patterns.proofs.SiftLaws.{sift-length}
+
+-- in how many ways k of n things can be chosen, by Pascal's rule
+unfoldable pub binomial : ℕ → ℕ → ℕ
+binomial n zero = 1
+binomial zero (suc k) = 0
+binomial (suc n) (suc k) = binomial n k + binomial n (suc k)
 
 length-map : {A B : Type 0} (f : A → B) (xs : List A) → length (map f xs) ≡ length xs
 length-map f [] = refl
@@ -41,18 +46,18 @@ unfolding binomial
 binomial-zero n = refl
 
 -- the number of sets of at most so many positions
-pub upTo-zero : (l : ℕ) → length (upTo l 0) ≡ 1
+pub count-zero : (l : ℕ) → length (upTo l 0) ≡ 1
 unfolding upTo choose
-upTo-zero l = refl
+count-zero l = refl
 
-pub upTo-next : (l limit : ℕ) → length (upTo l (suc limit)) ≡ length (upTo l limit) + binomial l (suc limit)
+pub count-next : (l limit : ℕ) → length (upTo l (suc limit)) ≡ length (upTo l limit) + binomial l (suc limit)
 unfolding upTo
-upTo-next l limit =
+count-next l limit =
     length-append (upTo l limit) (choose l (suc limit) 0) ∙ ap (λ (x : ℕ). length (upTo l limit) + x) (choose-length l (suc limit) 0)
 
 upTo-grows : (l a b : ℕ) → a ≤ b → length (upTo l a) ≤ length (upTo l b)
 upTo-grows l a b h =
-    le-ind (λ (m : ℕ). length (upTo l a) ≤ length (upTo l m)) (omega arith) (λ m k ih. omega (arith, upTo-next l m)) b h
+    le-ind (λ (m : ℕ). length (upTo l a) ≤ length (upTo l m)) (omega arith) (λ m k ih. omega (arith, count-next l m)) b h
 
 -- one more position multiplies the number by at most 4,096 / (k + 1)
 binomial-bound : (l k : ℕ) → l ≤ 4096 → binomial l (suc k) * suc k ≤ binomial l k * 4096
@@ -63,13 +68,13 @@ upTo-fits l limit h k =
     omega (
       arith,
       upTo-grows l limit 6 k,
-      upTo-zero l,
-      upTo-next l 0,
-      upTo-next l 1,
-      upTo-next l 2,
-      upTo-next l 3,
-      upTo-next l 4,
-      upTo-next l 5,
+      count-zero l,
+      count-next l 0,
+      count-next l 1,
+      count-next l 2,
+      count-next l 3,
+      count-next l 4,
+      count-next l 5,
       binomial-zero l,
       binomial-bound l 0 h,
       binomial-bound l 1 h,

@@ -10,13 +10,14 @@ use native.Mathlib.Omega.{arith}
 use borrow.Author.Tests.{le-leb, lt-ltb, leb-true, ltb-true, eq-eqb, eqb-true}
 use lib.Dec.{eqb, ltb, leb}
 use lib.ListN.{length}
-use Rattle.base.specs.Lists.{In, here, there}
+use Rattle.base.specs.Lists.{In, here, there, Ascending, ends, next}
 use Rattle.base.proofs.Cases.{by-test, by-order}
+use Rattle.base.proofs.ListLaws.{in-nothing, ascending-from}
 use Rattle.patterns.specs.Order.{before}
 use Rattle.patterns.specs.StrictOrder.{Sorted, empty, first}
-use Rattle.patterns.specs.Listing.{Ascending, none, next, ascending, syndrome, choose, upTo, sift, listing}
+use Rattle.patterns.specs.Listing.{ascending, syndrome, choose, upTo, sift, listing}
 use Rattle.patterns.proofs.OrderLaws.{before-strict-total, fewer-before, lower-head-before, same-head-before}
-use Rattle.patterns.proofs.MemberLaws.{in-nothing, in-left, in-right, in-either, in-map, map-in}
+use Rattle.patterns.proofs.MemberLaws.{in-left, in-right, in-either, in-map, map-in}
 use Rattle.patterns.proofs.SiftLaws.{sift-in, in-sift}
 use Rattle.patterns.proofs.SortedLaws.{sorted-append, sorted-map, sorted-sift, sorted-once, sorted-same}
 
@@ -24,7 +25,7 @@ use Rattle.patterns.proofs.SortedLaws.{sorted-append, sorted-map, sorte
 
 pub ascending-true : (l from : ℕ) (ps : List ℕ) → ascending l from ps ≡ true → Ascending l from ps
 unfolding ascending
-ascending-true l from [] e = none
+ascending-true l from [] e = ends
 ascending-true l from (p ∷ ps) e =
     by-test (leb from p)
     (λ t.
@@ -35,18 +36,14 @@ ascending-true l from (p ∷ ps) e =
 
 pub true-ascending : {l from : ℕ} {ps : List ℕ} → Ascending l from ps → ascending l from ps ≡ true
 unfolding ascending
-true-ascending none = refl
+true-ascending ends = refl
 true-ascending (next h k a) = simp (le-leb _ _ h, lt-ltb _ _ k, true-ascending a)
-
-pub ascending-from : {l from : ℕ} {ps : List ℕ} (to : ℕ) → to ≤ from → Ascending l from ps → Ascending l to ps
-ascending-from to h none = none
-ascending-from to h (next {p = p} a b c) = let e : to ≤ p = omega arith in next e b c
 
 -- ---- all sets of k positions ----
 
 pub choose-in : (room k from l : ℕ) → from + room ≡ l → (ps : List ℕ) → In ps (choose room k from) → Ascending l from ps × (length ps ≡ k)
 unfolding choose
-choose-in room zero from l e ps (here d) = rw d (none, refl)
+choose-in room zero from l e ps (here d) = rw d (ends, refl)
 choose-in room zero from l e ps (there h) = absurd (in-nothing h)
 choose-in zero (suc k) from l e ps h = absurd (in-nothing h)
 choose-in (suc room) (suc k) from l e ps h =
@@ -60,9 +57,9 @@ choose-in (suc room) (suc k) from l e ps h =
 
 pub in-choose : (room from l : ℕ) → from + room ≡ l → {ps : List ℕ} → Ascending l from ps → In ps (choose room (length ps) from)
 unfolding choose
-in-choose zero from l e none = here refl
+in-choose zero from l e ends = here refl
 in-choose zero from l e (next h k a) = absurd (omega arith)
-in-choose (suc room) from l e none = here refl
+in-choose (suc room) from l e ends = here refl
 in-choose (suc room) from l e (next {p = p} {ps = ps} h k a) =
     by-order from p
     (λ lt. in-right (map (λ (qs : List ℕ). from ∷ qs) (choose room (length ps) (suc from))) (in-choose room (suc from) l (omega arith) (next lt k a)))
@@ -75,7 +72,7 @@ in-choose-of room from l k e a d = rw d at (in-choose room from l e a)
 
 -- a set whose positions are all past `from` comes after one of the same count that has `from`
 head-before : (from l k : ℕ) (ps qs : List ℕ) → length ps ≡ k → Ascending l (suc from) qs → length qs ≡ suc k → before (from ∷ ps) qs ≡ true
-head-before from l k ps qs e none d = absurd (omega arith)
+head-before from l k ps qs e ends d = absurd (omega arith)
 head-before from l k ps qs e (next {p = q} {ps = rs} h _ a) d = lower-head-before from q ps rs (omega arith) h
 
 pub choose-sorted : (room k from : ℕ) → Sorted before (choose room k from)

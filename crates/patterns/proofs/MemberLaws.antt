@@ -1,13 +1,10 @@
 -- Members of joined and mapped lists.
-use mathlib.Core.Path.{_≡_, refl, sym, ap, _∙_}
+use mathlib.Core.Path.{_≡_, refl, ap}
 use mathlib.Core.Logic.{_⊎_, inl, inr, ⊎-elim}
 use mathlib.Core.List.{List, [], _∷_, _++_, map}
 use Rattle.base.specs.Lists.{In, here, there}
 
 module _ {A : Type 0} where
-  pub in-nothing : {a : A} → In a [] → ⊥
-  in-nothing h = elim h [ ]
-
   pub in-left : {a : A} {xs : List A} (ys : List A) → In a xs → In a (xs ++ ys)
   in-left ys (here e) = here e
   in-left ys (there h) = there (in-left ys h)
@@ -29,7 +26,3 @@ module _ {A : Type 0} where
   map-in f [] h = elim h [ ]
   map-in f (x ∷ xs) (here e) = (x, here refl, e)
   map-in f (x ∷ xs) (there h) = let r = map-in f xs h in (r .0, there (r .1), r .2)
-
-  pub in-equal : {a b : A} {xs : List A} → a ≡ b → In a xs → In b xs
-  in-equal e (here d) = here (sym e ∙ d)
-  in-equal e (there h) = there (in-equal e h)

@@ -15,19 +15,20 @@ use Rattle.patterns.specs.Patterns.{Place, ended, after}
 use Rattle.patterns.specs.Order.{before}
 use Rattle.patterns.specs.StrictOrder.{Sorted}
 use Rattle.patterns.specs.Marks.{remaining}
-use Rattle.patterns.specs.Pages.{places, recordOf, records, fitting, lastOf, nextPlace, pageOf, pageBytes}
+use Rattle.patterns.specs.Records.{positionBytes, recordOf, records}
+use Rattle.patterns.specs.Pages.{fitting, lastOf, nextPlace, pageOf, pageBytes}
 use Rattle.patterns.proofs.FollowLaws.{remaining-ended, remaining-last}
 
 -- ---- records ----
 
-pub places-length : (ps : List ℕ) → length (places ps) ≡ 2 * length ps
-unfolding places
-places-length [] = refl
-places-length (p ∷ ps) = omega (arith, places-length ps)
+pub positionBytes-length : (ps : List ℕ) → length (positionBytes ps) ≡ 2 * length ps
+unfolding positionBytes
+positionBytes-length [] = refl
+positionBytes-length (p ∷ ps) = omega (arith, positionBytes-length ps)
 
 pub record-length : (ps : List ℕ) → length (recordOf ps) ≡ 1 + 2 * length ps
 unfolding recordOf
-record-length ps = omega (arith, places-length ps)
+record-length ps = omega (arith, positionBytes-length ps)
 
 pub records-append : (xs ys : List (List ℕ)) → records (xs ++ ys) ≡ records xs ++ records ys
 unfolding records

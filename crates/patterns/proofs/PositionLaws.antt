@@ -2,15 +2,16 @@
 use mathlib.Core.Path.{_≡_, refl, sym, ap, _∙_}
 use mathlib.Core.Bool.{true, false}
 use mathlib.Core.List.{List, [], _∷_, _++_}
-use Prim.Native.Nat.{ℕ, zero, suc, _+_, _<_, _≤_}
+use Prim.Native.Nat.{ℕ, zero, suc, _+_, _-_, _<_, _≤_}
 use native.Mathlib.Omega.{arith}
 use native.Mathlib.Numerals.{add-one}
 use borrow.Author.Tests.{le-leb, lt-leb, lt-ltb, le-ltb}
-use lib.ListN.{length, take, drop, getD, set, drop-of-length-le, length-take}
-use lib.Seq.{drop-cons, take-suc, take-all, set-at, append-snoc, length-take-le}
+use lib.ListN.{length, take, drop, getD, set, replicate, drop-of-length-le, length-append, length-replicate}
+use lib.Seq.{drop-cons, take-suc, take-all, take-append-seam, set-at, append-snoc, length-take-le}
 use Rattle.patterns.specs.declared.Pattern.{Pattern}
 use Rattle.patterns.specs.declared.Pattern.the-variants.{Empty, One, Two, Three, Four}
-use Rattle.patterns.specs.Patterns.{positions}
+use Rattle.patterns.specs.Patterns.{mostPositions, positions}
+use Rattle.patterns.specs.Slices.{spreadOut}
 use Rattle.patterns.specs.Listing.{ascending}
 
 -- the k elements from index i on
@@ -39,9 +40,9 @@ module _ (l from : ℕ) (ps : List ℕ) (i : ℕ) (h : i < length ps) where
   unfolding ascending
   ascending-beyond j k = rw (drop-cons ps i 0 h, le-leb from (getD ps i 0) j, le-ltb (getD ps i 0) l k)
 
-  pub ascending-step : from ≤ getD ps i 0 → getD ps i 0 < l → ascending l (getD ps i 0 + 1) (drop (i + 1) ps) ≡ ascending l from (drop i ps)
+  pub ascending-step : from ≤ getD ps i 0 → getD ps i 0 < l → (next : ℕ) → next ≡ getD ps i 0 + 1 → ascending l next (drop (i + 1) ps) ≡ ascending l from (drop i ps)
   unfolding ascending
-  ascending-step j k = rw (drop-cons ps i 0 h, le-leb from (getD ps i 0) j, lt-ltb (getD ps i 0) l k, add-one (getD ps i 0), add-one i)
+  ascending-step j k next e = rw (e, drop-cons ps i 0 h, le-leb from (getD ps i 0) j, lt-ltb (getD ps i 0) l k, add-one (getD ps i 0), add-one i)
 
 pub ascending-end : (l from : ℕ) (ps : List ℕ) (i : ℕ) → length ps ≤ i → ascending l from (drop i ps) ≡ true
 unfolding ascending
@@ -49,15 +50,20 @@ ascending-end l from ps i h = rw (drop-of-length-le ps h)
 
 -- ---- a pattern's positions ----
 
-pub positions-most : (p : Pattern) → length (positions p) ≤ 4
+pub positions-most : (p : Pattern) → length (positions p) ≤ mostPositions
 positions-most Empty = omega arith
 positions-most (One a) = omega arith
 positions-most (Two a b) = omega arith
 positions-most (Three a b c) = omega arith
 positions-most (Four a b c d) = omega arith
 
-pub taken-length : (k : ℕ) (l ps : List ℕ) → take k l ≡ ps → length ps ≡ k → k ≤ length l
-taken-length k l ps e d = omega (arith, length-take k l, ap length e)
+-- what `spread` lays out
+module _ (ps held : List ℕ) (e : held ≡ spreadOut ps) where
+  pub spread-take : take (length ps) held ≡ ps
+  spread-take = rw e (take-append-seam ps (replicate (mostPositions - length ps) 0))
+
+  pub spread-length : length ps ≤ mostPositions → length held ≡ mostPositions
+  spread-length h = rw e (simp (length-append, length-replicate) (omega arith))
 
 -- a turn of a loop that copies s over the front of d
 pub copy-turn : (d s cur : List ℕ) (j : ℕ) → cur ≡ take j s ++ drop j d → j < length d → j < length s

@@ -1,4 +1,4 @@
--- Demand 3's sequence of page calls, as one theorem over any list of requests. The invariant, for k records written
+-- The sequence of page calls, as one theorem over any list of requests. The invariant, for k records written
 -- and the mark reached: what follows the mark is the list without its first k patterns.
 use mathlib.Core.Path.{_≡_, refl, sym, ap, ap₂, _∙_}
 use mathlib.Core.Logic.{_⊎_, inl, inr}
@@ -17,21 +17,28 @@ use Rattle.patterns.specs.Order.{before}
 use Rattle.patterns.specs.StrictOrder.{Sorted}
 use Rattle.patterns.specs.Listing.{listing}
 use Rattle.patterns.specs.Marks.{remaining}
-use Rattle.patterns.specs.Pages.{records, fitting, lastOf, nextPlace, Page, pageOf, pageBytes}
-use Rattle.patterns.specs.Sequences.{pageAnswer, Call, calls, pageCalls, joined, reported, reached, Counted, none, adds, Sequence}
+use Rattle.patterns.specs.Records.{records}
+use Rattle.patterns.specs.Pages.{fitting, lastOf, nextPlace, Page, pageOf, pageBytes, pagedBy, leftBy}
+use Rattle.patterns.specs.Sequences.{Call, calls, joined, reported, reached, CountsUp, none, adds, Sequence}
 use Rattle.patterns.proofs.SiftLaws.{sift-in}
 use Rattle.patterns.proofs.FollowLaws.{remaining-start}
 use Rattle.patterns.proofs.ListingLaws.{listing-sorted, listed-limit}
 use Rattle.patterns.proofs.PageLaws.{records-append, fitting-take, fitting-length, fitting-unless, page-length, page-used, page-leaves, next-ended, next-after, last-take}
+
+-- the calls over the list xs: each request brings an output of its own, and its conditions at a mark
+abbrev pub pageCalls : {Request : Type 0} → List (List ℕ) → (Request → List ℕ) → (Request → Place → List Condition) → Place → List Request → List Call
+pageCalls xs output conditions =
+    calls (λ r mark. pagedBy (conditions r mark) (remaining xs mark) (output r))
+    (λ r mark. leftBy (conditions r mark) (remaining xs mark) (output r))
 
 by-outcome : {A C : Type 0} (o : Outcome A) → ((k : ℕ) → o ≡ refused k → C) → ((a : A) → o ≡ accepted a → C) → C
 by-outcome (refused k) f g = f k refl
 by-outcome (accepted a) f g = g a refl
 
 -- the mark after an accepted call, with k records written
-data Settled (xs : List (List ℕ)) (k : ℕ) (m : Place) : Type 0 where
-  over : k ≡ length xs → m ≡ ended → Settled xs k m
-  inside : 1 ≤ k → k < length xs → m ≡ after (getD xs (k - 1) []) → Settled xs k m
+data Stands (xs : List (List ℕ)) (k : ℕ) (m : Place) : Type 0 where
+  over : k ≡ length xs → m ≡ ended → Stands xs k m
+  inside : 1 ≤ k → k < length xs → m ≡ after (getD xs (k - 1) []) → Stands xs k m
 
 unmoved : (cs : List Call) → length cs ≡ 0 → reached start cs ≡ start
 unfolding reached
@@ -40,15 +47,15 @@ unmoved (c ∷ cs) e = absurd (omega arith)
 
 -- what some calls bring about that begin at the mark m with k records written
 record Progress (xs : List (List ℕ)) (k : ℕ) (m : Place) (cs : List Call) : Type 0 where
-  pub counts : Counted xs k cs
+  pub counts : CountsUp xs k cs
   pub bound : k + reported cs ≤ length xs
   pub joint : joined cs ≡ records (take (reported cs) (drop k xs))
-  pub settles : Settled xs k m ⊎ (1 ≤ length cs) → Settled xs (k + reported cs) (reached m cs)
+  pub settles : Stands xs k m ⊎ (1 ≤ length cs) → Stands xs (k + reported cs) (reached m cs)
   pub steady : k + reported cs < length xs → length cs ≤ reported cs
 
 -- what the whole claim follows from
 module _ (xs : List (List ℕ)) (cs : List Call) (p : Progress xs 0 start cs) where
-  settled : 1 ≤ length cs → Settled xs (reported cs) (reached start cs)
+  settled : 1 ≤ length cs → Stands xs (reported cs) (reached start cs)
   settled h = rw (zero-add (reported cs)) at (p .settles (inr h))
 
   at-end : 1 ≤ length cs → reported cs ≡ length xs → reached start cs ≡ ended
@@ -86,7 +93,7 @@ module _ (xs : List (List ℕ)) (cs : List Call) (p : Progress xs 0 start cs) wh
 -- ---- one accepted call ----
 
 settled-next : (xs : List (List ℕ)) (k w : ℕ) (written : List (List ℕ)) → written ≡ take w (drop k xs) → length written ≡ w → k + w ≤ length xs
-    → (k < length xs → 1 ≤ w) → Settled xs (k + w) (nextPlace (drop k xs) written)
+    → (k < length xs → 1 ≤ w) → Stands xs (k + w) (nextPlace (drop k xs) written)
 settled-next xs k zero written e d h some =
     by-order k (length xs) (λ lt. absurd (omega (arith, some lt)))
     (λ ge. over (omega arith) (next-ended (drop k xs) written (omega (arith, length-drop k xs))))
@@ -120,7 +127,7 @@ module _ (xs : List (List ℕ)) (sorted : Sorted before xs) (limit : ℕ) (bound
     call-writes : k < length xs → 1 ≤ length (fitting room (drop k xs))
     call-writes h = rw (← left) (writes (rw left (omega (arith, length-drop k xs))))
 
-    call-settles : Settled xs (k + length (fitting room (drop k xs))) (pageOf (drop k xs) room .next)
+    call-settles : Stands xs (k + length (fitting room (drop k xs))) (pageOf (drop k xs) room .next)
     call-settles =
         settled-next xs k (length (fitting room (drop k xs))) (fitting room (drop k xs)) (fitting-take room (drop k xs)) refl call-within call-writes
 
@@ -161,7 +168,7 @@ module _ (xs : List (List ℕ)) (sorted : Sorted before xs) (limit : ℕ) (bound
           steady = λ h. omega arith;
         }
     progress (r ∷ rs) k m left within =
-        by-outcome (pageAnswer (conditions r m) (remaining xs m) (output r))
+        by-outcome (pagedBy (conditions r m) (remaining xs m) (output r))
         (λ number e. rw e (progress rs k m left within))
         (λ p e.
         let v = judge-value (conditions r m) (pageOf (remaining xs m) (length (output r))) p e in

@@ -1,7 +1,6 @@
 -- What passes a test, in its order; and, in a list that ascends, what follows a member or a mark.
 use mathlib.Core.Path.{_≡_, refl, sym, _∙_}
 use mathlib.Core.Bool.{Bool, true, false, _&&_, and-comm}
-use mathlib.Core.Logic.{_↔_}
 use mathlib.Core.List.{List, [], _∷_, _++_, map}
 use Prim.Native.Nat.{_≤_}
 use native.Mathlib.Omega.{arith}
@@ -34,9 +33,6 @@ module _ {A : Type 0} (P : A → Bool) where
       kept : {b : A} (x : A) (xs : List A) → P x ≡ true → (In b (sift P xs) → In b xs × (P b ≡ true)) → In b (x ∷ sift P xs) → In b (x ∷ xs) × (P b ≡ true)
       kept x xs u f (here e) = (here e, rw e u)
       kept x xs u f (there k) = let r = f k in (there (r .0), r .1)
-
-  pub sift-iff : (a : A) (xs : List A) → In a (sift P xs) ↔ (In a xs × (P a ≡ true))
-  sift-iff a xs = (sift-in xs, λ h. in-sift (h .0) (h .1))
 
   pub sift-append : (xs ys : List A) → sift P (xs ++ ys) ≡ sift P xs ++ sift P ys
   unfolding sift

@@ -10,7 +10,8 @@ use Rattle.base.specs.Lists.{In, here, there}
 use Rattle.base.proofs.Cases.{by-test}
 use Rattle.patterns.specs.Listing.{sift}
 use Rattle.patterns.specs.StrictOrder.{Sorted, empty, first, StrictTotal}
-use Rattle.patterns.proofs.MemberLaws.{in-nothing, in-right, in-either, map-in}
+use Rattle.base.proofs.ListLaws.{in-nothing}
+use Rattle.patterns.proofs.MemberLaws.{in-right, in-either, map-in}
 use Rattle.patterns.proofs.SiftLaws.{sift-skip, sift-in, sift-all, sift-none, sift-append}
 
 module _ {A : Type 0} {R : A → A → Bool} where

@@ -2,8 +2,8 @@ pub mod Patterns
 pub mod StrictOrder
 pub mod Order
 pub mod Listing
-pub mod Binomial
 pub mod Marks
+pub mod Records
 pub mod Pages
-pub mod RecordPut
 pub mod Sequences
+pub mod Slices

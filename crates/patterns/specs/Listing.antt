@@ -1,19 +1,14 @@
 -- The list of error patterns: every set of at most so many positions below l, with a given syndrome.
-use Prim.Native.Nat.{ℕ, zero, suc, _≤_, _<_}
-use mathlib.Core.Bool.{Bool, true, false, _&&_}
+use Prim.Native.Nat.{ℕ, zero, suc, _^_}
+use mathlib.Core.Bool.{Bool, true, false, _&&_, _||_}
 use mathlib.Core.List.{List, [], _∷_, _++_, map}
 use lib.Dec.{eqb, ltb, leb}
 use Rattle.base.specs.Outcome.{pick}
 use Rattle.poly.specs.Polynomial.{rem, powers}
-use Rattle.patterns.specs.Patterns.{Place, start, ended, after}
+use Rattle.patterns.specs.Patterns.{mostPositions, Place, start, ended, after}
 use Rattle.patterns.specs.Order.{before}
 
--- strictly ascending positions, from `from` on and below l
-pub data Ascending (l : ℕ) : ℕ → List ℕ → Type 0 where
-  none : {from : ℕ} → Ascending l from []
-  next : {from p : ℕ} {ps : List ℕ} → from ≤ p → p < l → Ascending l (suc p) ps → Ascending l from (p ∷ ps)
-
--- the same as a test
+-- are these strictly ascending positions, from `from` on and below l?
 unfoldable pub ascending : ℕ → ℕ → List ℕ → Bool
 ascending l from [] = true
 ascending l from (p ∷ ps) = leb from p && (ltb p l && ascending l (suc p) ps)
@@ -42,6 +37,14 @@ sift P (x ∷ xs) = pick (P x) (x ∷ sift P xs) (sift P xs)
 -- exactly when it is ascending, below l, of at most so many positions and of this syndrome, and that the list ascends
 unfoldable pub listing : ℕ → ℕ → ℕ → ℕ → ℕ → List (List ℕ)
 listing n g l limit s = sift (λ ps. eqb (syndrome n g ps) s) (upTo l limit)
+
+-- condition 3: the limit is 0 or above the most positions
+unfoldable pub unfitLimit : ℕ → Bool
+unfitLimit limit = eqb limit 0 || ltb mostPositions limit
+
+-- condition 4, for a generator of degree n: the syndrome is 2^n or more
+unfoldable pub unfitSyndrome : ℕ → ℕ → Bool
+unfitSyndrome n s = leb (2 ^ n) s
 
 -- does a pattern follow a mark?
 unfoldable pub follows : Place → List ℕ → Bool

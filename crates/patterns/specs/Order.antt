@@ -1,5 +1,5 @@
--- The order of patterns: fewer positions come first; equal counts are compared by smallest position, then the next,
--- and so on, lower first.
+-- The order of patterns: small ones stand before large ones, and those of one size go by their smallest positions, the lower
+-- first, then by the next smallest, and so on.
 use Prim.Native.Nat.{ℕ}
 use mathlib.Core.Bool.{Bool, false, _||_, _&&_}
 use mathlib.Core.List.{List, [], _∷_}

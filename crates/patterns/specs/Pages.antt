@@ -1,24 +1,11 @@
--- Records, and what one page holds of the patterns that follow its mark.
-use Prim.Native.Nat.{ℕ, _-_, _/_, _%_}
+-- What one page holds of the patterns that follow its mark, and what a page call answers and leaves.
+use Prim.Native.Nat.{ℕ, _-_}
 use mathlib.Core.List.{List, [], _∷_, _++_}
 use lib.Dec.{eqb, leb}
 use lib.ListN.{length, drop}
-use Rattle.base.specs.Outcome.{pick}
+use Rattle.base.specs.Outcome.{Outcome, refused, accepted, Condition, judge, pick}
 use Rattle.patterns.specs.Patterns.{Place, ended, after}
-
--- two bytes for each position, high byte first
-unfoldable pub places : List ℕ → List ℕ
-places [] = []
-places (p ∷ ps) = p / 256 ∷ p % 256 ∷ places ps
-
--- a record: the byte of kind, which is the count, and the positions
-unfoldable pub recordOf : List ℕ → List ℕ
-recordOf ps = length ps ∷ places ps
-
--- the records of several patterns, one after the other
-unfoldable pub records : List (List ℕ) → List ℕ
-records [] = []
-records (p ∷ ps) = recordOf p ++ records ps
+use Rattle.patterns.specs.Records.{recordOf, records}
 
 -- the first patterns whose records fit whole into so many bytes, up to the first that does not
 unfoldable pub fitting : ℕ → List (List ℕ) → List (List ℕ)
@@ -31,7 +18,7 @@ unfoldable pub lastOf : List ℕ → List (List ℕ) → List ℕ
 lastOf p [] = p
 lastOf p (q ∷ qs) = lastOf q qs
 
--- the next mark: ended exactly when no listed pattern follows, else after the last one written
+-- the next mark: ended where all that follow are written, and after the last one written where more are left
 unfoldable pub nextPlace : List (List ℕ) → List (List ℕ) → Place
 nextPlace rest written = pick (eqb (length written) (length rest)) ended (after (lastOf [] written))
 
@@ -54,3 +41,11 @@ pageOf rest room =
 abbrev pub pageBytes : List (List ℕ) → List ℕ → List ℕ
 pageBytes rest out =
     records (fitting (length out) rest) ++ drop (length (records (fitting (length out) rest))) out
+
+-- what a page call answers, by its conditions, the patterns that follow its mark and its output
+abbrev pub pagedBy : List Condition → List (List ℕ) → List ℕ → Outcome Page
+pagedBy ts rest out = judge ts refused (accepted (pageOf rest (length out)))
+
+-- its output as it stands when the call returns
+abbrev pub leftBy : List Condition → List (List ℕ) → List ℕ → List ℕ
+leftBy ts rest out = judge ts (λ number. out) (pageBytes rest out)

@@ -6,6 +6,10 @@ use Rattle.patterns.specs.declared.Pattern.the-variants.{Empty, One, Two
 use Rattle.patterns.specs.declared.Mark.{Mark}
 use Rattle.patterns.specs.declared.Mark.the-variants.{Start, Ended, After}
 
+-- the most positions that a pattern holds
+abbrev pub mostPositions : ℕ
+mostPositions = 4
+
 -- the positions of a pattern, as it holds them
 abbrev pub positions : Pattern → List ℕ
 positions Empty = []
@@ -14,7 +18,7 @@ positions (Two a b) = a ∷ b ∷ []
 positions (Three a b c) = a ∷ b ∷ c ∷ []
 positions (Four a b c d) = a ∷ b ∷ c ∷ d ∷ []
 
--- document 01's mark: before the list, past its end, or after a pattern
+-- a mark: before the list, past its end, or after a pattern
 pub data Place : Type 0 where
   start : Place
   ended : Place

@@ -1,12 +1,20 @@
 // Error patterns, marks, and a pattern as a slice of its positions.
+use poly::Generator;
 ghost use mathlib.Core.Path.{_≡_};
 ghost use mathlib.Core.List.{_++_};
 ghost use Prim.Native.Nat.{_+_, _*_, _<_, _≤_};
 ghost use lib.ListN.{length, take, drop};
-ghost use Rattle.patterns.specs.Patterns.{positions, placeOf};
-ghost use Rattle.patterns.specs.Listing.{ascending};
+ghost use Rattle.poly.specs.Fit.{Fit};
+ghost use Rattle.patterns.specs.Patterns.{mostPositions, positions, placeOf};
+ghost use Rattle.patterns.specs.Listing.{ascending, unfitLimit, unfitSyndrome};
 ghost use Rattle.patterns.specs.Marks.{unfitPattern, unfitMark};
-ghost use Rattle.patterns.specs.RecordPut.{RecordPut};
+ghost use Rattle.patterns.specs.Records.{positionsIn};
+ghost use Rattle.patterns.specs.Slices.{spreadOut, RecordPut};
+
+// The most positions of a pattern, and the bytes of its record.
+pub const MOST_POSITIONS: usize = 4;
+
+pub const LONGEST_RECORD: usize = 1 + 2 * MOST_POSITIONS;
 
 // A set of positions, by their count, in ascending order.
 pub enum Pattern {
@@ -26,7 +34,7 @@ pub enum Mark {
 
 // The pattern of a slice's first positions, as many as a pattern holds.
 pub fn from_positions(pos: &[u16]) -> Pattern
-    ensures { λ r. ⌜ positions r ≡ take 4 (now (pos .entry)) ⌝ }
+    ensures { λ r. ⌜ positions r ≡ take mostPositions (now (pos .entry)) ⌝ }
 {
     let n = pos.len();
     if n == 0 {
@@ -57,8 +65,8 @@ pub fn count_of(p: Pattern) -> usize
 }
 
 // Its positions in an array, with zeros behind them.
-pub fn spread(p: Pattern) -> [u16; 4]
-    ensures { λ r. ⌜ take (length (positions p)) r ≡ positions p ⌝ }
+pub fn spread(p: Pattern) -> [u16; MOST_POSITIONS]
+    ensures { λ r. ⌜ r ≡ spreadOut (positions p) ⌝ }
 {
     match p {
         Pattern::Empty => [0, 0, 0, 0],
@@ -81,6 +89,24 @@ pub fn put_positions(p: Pattern, pos: &mut [u16])
         pos[i] = held[i];
         i += 1;
     }
+}
+
+// Condition 3.
+pub fn unfit_limit(limit: usize) -> bool
+    ensures { λ r. ⌜ r ≡ unfitLimit limit ⌝ }
+{
+    if limit == 0 {
+        return true;
+    }
+    MOST_POSITIONS < limit
+}
+
+// Condition 4.
+pub fn unfit_syndrome(g: Generator, syndrome: u64) -> bool
+    requires { ⌜ Fit g ⌝ }
+    ensures { λ r. ⌜ r ≡ unfitSyndrome (g .degree) syndrome ⌝ }
+{
+    1u64 << g.degree <= syndrome
 }
 
 // Are these strictly ascending positions below l?
@@ -142,4 +168,18 @@ pub fn put_record(pos: &[u16], out: &mut [u8], at: usize) -> usize
         i += 1;
     }
     to
+}
+
+// As many positions as `pos` has room for, read from the start of some bytes.
+pub fn get_positions(bytes: &[u8], pos: &mut [u16])
+    requires { ⌜ 2 * length (now pos) ≤ length (now bytes) ⌝ }
+    ensures { λ _. ⌜ now (pos .exit) ≡ positionsIn (length (now (pos .entry))) (now (bytes .entry)) ⌝ }
+{
+    let mut i: usize = 0;
+    while i < pos.len() {
+        let high = bytes[2 * i] as u16;
+        let low = bytes[2 * i + 1] as u16;
+        pos[i] = high * 256 + low;
+        i += 1;
+    }
 }

@@ -8,7 +8,7 @@ use lib.Pow.{pow-pos}
 use lib.Bits.{bitXor, xor-zero-l, xor-self, xor-shr, xor-block, xor-shifted, xor-lt}
 use Rattle.base.proofs.Cases.{by-order}
 use Rattle.base.proofs.XorLaws.{mod-two-lt, xor-assoc, xor-half, xor-low, xor-ac}
-use Rattle.poly.specs.Polynomial.{times, down, rem, reduce}
+use Rattle.poly.specs.Polynomial.{times, rem, reduce}
 use Rattle.poly.proofs.FoldLaws.{down-step, down-zero}
 use Rattle.poly.proofs.ProductLaws.{times-step, times-zero, digit-sum, digit-xor, xor-double, xor-digit, xor-join}
 

@@ -1,12 +1,10 @@
--- The product of binary polynomials: its equations, and that it distributes over the sum.
-use mathlib.Core.Path.{_≡_, refl, sym, ap, ap₂, _∙_}
-use Prim.Native.Nat.{ℕ, zero, suc, _+_, _*_, _/_, _%_, _<_}
+-- The product of binary polynomials: its equations, and sums by their lowest digits.
+use mathlib.Core.Path.{_≡_, refl, ap₂, _∙_}
+use Prim.Native.Nat.{ℕ, zero, suc, _+_, _*_, _/_, _%_, _<_, _≤_}
 use native.Mathlib.Omega.{arith}
-use native.Mathlib.Nat.{zero-mul}
-use lib.Arith.{bin-ind}
+use native.Mathlib.Nat.{zero-mul, one-mul}
 use lib.Bits.{bitXor, differ, xor-step, xor-zero-l, xor-zero-r, xor-self}
-use Rattle.base.proofs.XorLaws.{mod-two-lt, xor-half, xor-low, xor-ac}
-use Rattle.poly.specs.Polynomial.{times, down}
+use Rattle.poly.specs.Polynomial.{times}
 use Rattle.poly.proofs.FoldLaws.{down-step, down-zero}
 
 pub times-zero : (b : ℕ) → times 0 b ≡ 0
@@ -58,15 +56,7 @@ digit-xor (suc zero) (suc zero) hd he = refl
 digit-xor (suc zero) (suc (suc e)) hd he = absurd (omega arith)
 digit-xor (suc (suc d)) e hd he = absurd (omega arith)
 
-pub times-xor-left : (a b c : ℕ) → times (bitXor a b) c ≡ bitXor (times a c) (times b c)
-times-xor-left a =
-    bin-ind (λ (m : ℕ). (b c : ℕ) → times (bitXor m b) c ≡ bitXor (times m c) (times b c))
-    (λ b c. simp (xor-zero-l, times-zero))
-    (λ m ih b c.
-    times-step (bitXor m b) c
-    ∙ ap₂ bitXor
-    (ap (λ (x : ℕ). x * 2) (ap (λ (x : ℕ). times x c) (xor-half m b) ∙ ih (b / 2) c) ∙ sym (xor-double (times (m / 2) c) (times (b / 2) c)))
-    (ap (λ (x : ℕ). x * c) (xor-low m b) ∙ digit-sum (m % 2) (b % 2) c (mod-two-lt m) (mod-two-lt b))
-    ∙ (simp xor-ac)
-    ∙ sym (ap₂ bitXor (times-step m c) (times-step b c)))
-    a
+pub digit-times : (e h : ℕ) → e < 2 → e * h ≤ h
+digit-times zero h l = simp zero-mul (omega arith)
+digit-times (suc zero) h l = simp one-mul (omega arith)
+digit-times (suc (suc e)) h l = absurd (omega arith)

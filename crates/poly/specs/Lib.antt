@@ -1,2 +1,3 @@
 pub mod Polynomial
 pub mod Generators
+pub mod Fit

@@ -1,32 +1,33 @@
--- A page call is accepted only from a mark of nine bytes: others are taken for a mark that condition 7 turns down.
+-- A page call is accepted only from a mark of the right number of bytes: others are taken for a mark that condition 7 refuses.
+-- And the mark that it then writes is read back as it is by the next call.
 use mathlib.Core.Path.{_≡_, sym, ap, _∙_}
 use mathlib.Core.Bool.{true, false, true≢false}
-use mathlib.Core.List.{List, [], _∷_}
-use Prim.Native.Nat.{ℕ}
+use mathlib.Core.List.{List}
+use Prim.Native.Nat.{ℕ, _≤_}
+use native.Mathlib.Omega.{arith}
 use lib.ListN.{length}
-use Rattle.base.specs.Outcome.{refused, accepted, when, judge}
+use Rattle.base.specs.Outcome.{refused, accepted, judge}
 use Rattle.base.proofs.Cases.{by-equal}
-use Rattle.base.proofs.JudgeLaws.{judge-clear, first-of, rest-of}
-use Rattle.poly.specs.Polynomial.{degree}
-use Rattle.poly.specs.Generators.{unfit}
-use Rattle.packet.specs.Packet.{unfitLength}
-use Rattle.tables.specs.Tables.{unfitTables, wrongTables}
-use Rattle.patterns.specs.Patterns.{Place}
+use Rattle.base.proofs.JudgeLaws.{earlier, judge-applied, judge-clear}
+use Rattle.patterns.specs.Patterns.{mostPositions, Place, start, ended, after}
 use Rattle.patterns.specs.Marks.{remaining, unfitMark}
 use Rattle.patterns.specs.Pages.{Page, pageOf}
-use Rattle.pages.specs.Conditions.{Request, unfitLimit, unfitSyndrome, pageConditions}
+use Rattle.patterns.specs.Records.{longestRecord}
+use Rattle.patterns.proofs.MarkLaws.{fit-limit, fit-iff}
+use Rattle.pages.specs.Conditions.{Request, pageConditions}
 use Rattle.pages.specs.Calls.{requested, pageCall}
-use Rattle.rangqoda.specs.Marks.{malformed, placeOfBytes}
-use Rattle.rangqoda.proofs.MarkByteLaws.{malformed-unfit, malformed-by-length}
+use Rattle.pages.proofs.PageTheorem.{page-mark-fits}
+use Rattle.rangqoda.specs.Marks.{malformed, placeOfBytes, markBytes}
+use Rattle.rangqoda.proofs.MarkByteLaws.{malformed-unfit, malformed-by-length, Short, at-start, at-end, behind, read-back}
 
 -- an accepted call's mark is fit
 pub accepted-fit : (r : Request) (mark : Place) {page : Page} → accepted page ≡ pageCall r mark → unfitMark (r .bits) (r .limit) mark ≡ false
 accepted-fit r mark {page} e =
-    first-of (rest-of (rest-of (rest-of (rest-of (rest-of (rest-of (judge-clear (pageConditions r mark) (pageOf (remaining (requested r) mark) (length (r .output))) page (sym e))))))))
+    judge-clear (pageConditions r mark) (pageOf (remaining (requested r) mark) (length (r .output))) page (sym e) 7
 
-pub accepted-nine : (r : Request) (s : List ℕ) {page : Page} → accepted page ≡ pageCall r (placeOfBytes s) → length s ≡ 9
-accepted-nine r s e =
-    by-equal (length s) 9 (λ h. h)
+pub accepted-long : (r : Request) (s : List ℕ) {page : Page} → accepted page ≡ pageCall r (placeOfBytes s) → length s ≡ longestRecord
+accepted-long r s e =
+    by-equal (length s) longestRecord (λ h. h)
     (λ h.
     absurd
     (true≢false
@@ -34,16 +35,17 @@ accepted-nine r s e =
     ∙ ap (unfitMark (r .bits) (r .limit)) (sym (malformed-by-length s h))
     ∙ accepted-fit r (placeOfBytes s) e)))
 
--- bytes that are no mark are turned down by 7, where none of 1 to 6 applies
-pub malformed-refused : (r : Request) (page : Page) →
-    pageCall r malformed
-    ≡ judge
-    (when 1 (unfit (r .generator))
-    ∷ when 2 (unfitLength (degree (r .generator)) (r .bits))
-    ∷ when 3 (unfitLimit (r .limit))
-    ∷ when 4 (unfitSyndrome (degree (r .generator)) (r .syndrome))
-    ∷ when 5 (unfitTables (degree (r .generator)) (length (r .steps)) (length (r .firsts)))
-    ∷ when 6 (wrongTables (degree (r .generator)) (r .generator) (r .steps) (r .firsts))
-    ∷ when 7 true
-    ∷ []) refused (accepted page)
-malformed-refused r page = rw (malformed-unfit (r .bits) (r .limit))
+-- bytes that are no mark are refused by 7, unless an earlier condition applies
+pub malformed-refused : (r : Request) → pageCall r malformed ≡ judge (earlier 7 (pageConditions r malformed)) refused (refused 7)
+malformed-refused r = judge-applied 7 (pageConditions r malformed) _ (malformed-unfit (r .bits) (r .limit))
+
+-- the next mark of an accepted call, written and read back, is that mark
+pub mark-read-back : (r : Request) (mark : Place) (page : Page) → pageCall r mark ≡ accepted page → placeOfBytes (markBytes (page .next)) ≡ page .next
+mark-read-back r mark page e =
+    let clear = judge-clear (pageConditions r mark) (pageOf (remaining (requested r) mark) (length (r .output))) page e in
+    read-back (fit-short (r .bits) (r .limit) (page .next) (fit-limit (r .limit) (clear 3)) (page-mark-fits r mark page e))
+  where
+    fit-short : (l limit : ℕ) (m : Place) → limit ≤ mostPositions → unfitMark l limit m ≡ false → Short m
+    fit-short l limit start h f = at-start
+    fit-short l limit ended h f = at-end
+    fit-short l limit (after ps) h f = let few : length ps ≤ mostPositions = omega (arith, fit-iff l limit ps .0 f .1) in behind few

@@ -9,16 +9,18 @@ use borrow.Rule.Slice.PartMut.{midOf, postOf, putMid, mid-len, same-len-mid}
 use borrow.Author.Tests.{eq-eqb}
 use Rattle.packet.specs.Packet.{bytes}
 use Rattle.packet.proofs.PacketLaws.{length-bytes}
-use Rattle.patterns.specs.Pages.{recordOf}
+use Rattle.patterns.specs.Patterns.{mostPositions, positions}
+use Rattle.patterns.specs.Records.{recordOf, longestRecord, recordIn}
 use Rattle.patterns.proofs.PageLaws.{record-length}
+use Rattle.patterns.proofs.RecordLaws.{record-back}
 use Rattle.patterns.proofs.PositionLaws.{positions-most}
 use Rattle.repair.specs.declared.Verdict.{Verdict}
 use Rattle.repair.specs.declared.Verdict.the-variants.{Intact, Repaired, Several, None}
-use Rattle.repair.specs.Verdicts.{Said, intact, repaired, several, nothing, said}
+use Rattle.repair.specs.Verdicts.{said}
 use Rattle.repair.specs.Calls.{handedBack}
-use Rattle.rangqoda.specs.Marks.{recordIn, padded}
-use Rattle.rangqoda.specs.Verdicts.{laid, verdictBytes, patternIn, publishCode, published}
-use Rattle.rangqoda.proofs.MarkByteLaws.{record-back, padded-length}
+use Rattle.rangqoda.specs.Marks.{padded}
+use Rattle.rangqoda.specs.Verdicts.{verdictLength, laid, verdictBytes, patternIn, publishCode, published}
+use Rattle.rangqoda.proofs.MarkByteLaws.{padded-length}
 
 -- a turn of the loop that writes a number from its last byte on
 pub number-turn : (s : List ℕ) (i left : ℕ) → i < length s → bytes i (left / 256) ++ drop i (set s i (left % 256)) ≡ bytes (suc i) left ++ drop (suc i) s
@@ -30,9 +32,9 @@ number-turn s i left h =
     ∙ drop-at (take i s) (left % 256 ∷ drop (suc i) s) i (length-take-le i s n))
     ∙ sym (append-snoc (bytes i (left / 256)) (left % 256) (drop (suc i) s))
 
--- ---- a verdict in parts: its kind, then a number in eight bytes, then a record in nine ----
+-- ---- a verdict in parts: its kind, then a number in eight bytes, then a record ----
 
-module _ (l : List ℕ) (x : ℕ) (full : length l ≡ 18) where
+module _ (l : List ℕ) (x : ℕ) (full : length l ≡ verdictLength) where
   number-room : 9 ≤ length (set l 0 x)
   number-room = omega (arith, length-set l 0 x)
 
@@ -41,7 +43,7 @@ module _ (l : List ℕ) (x : ℕ) (full : length l ≡ 18) where
   room-eight = mid-len 1 9 (set l 0 x) number-room
 
   module _ (ys : List ℕ) (eight : length ys ≡ 8) where
-    pub begun-length : length (putMid 1 8 (set l 0 x) ys) ≡ 18
+    pub begun-length : length (putMid 1 8 (set l 0 x) ys) ≡ verdictLength
     begun-length = same-len-mid 1 8 (set l 0 x) ys (eight ∙ sym room-eight) ∙ length-set l 0 x ∙ full
 
     front : take 9 (putMid 1 8 (set l 0 x) ys) ≡ x ∷ ys
@@ -49,10 +51,10 @@ module _ (l : List ℕ) (x : ℕ) (full : length l ≡ 18) where
         ap (λ (t : List ℕ). take 9 (t ++ (ys ++ postOf 1 8 (set l 0 x)))) (take-suc-set l 0 x (omega arith))
         ∙ ap (λ (t : List ℕ). x ∷ t) (take-at ys (postOf 1 8 (set l 0 x)) 8 eight)
 
-    pub parts-laid : (zs : List ℕ) → putMid 9 9 (putMid 1 8 (set l 0 x) ys) zs ≡ x ∷ (ys ++ zs)
+    pub parts-laid : (zs : List ℕ) → putMid 9 longestRecord (putMid 1 8 (set l 0 x) ys) zs ≡ x ∷ (ys ++ zs)
     parts-laid zs =
         let b = putMid 1 8 (set l 0 x) ys in
-        let n : length (drop 9 b) ≤ 9 = omega (arith, begun-length, length-drop 9 b) in
+        let n : length (drop 9 b) ≤ longestRecord = omega (arith, begun-length, length-drop 9 b) in
         ap₂ (λ (s t : List ℕ). s ++ (zs ++ t)) front (drop-of-length-le (drop 9 b) n)
         ∙ ap (λ (t : List ℕ). x ∷ (ys ++ t)) (append-nil zs)
 
@@ -62,37 +64,17 @@ pub pattern-back : (kind count : ℕ) (ps : List ℕ) → patternIn (laid kind c
 unfolding patternIn
 pattern-back kind count ps =
     ap recordIn (drop-at (bytes 8 count) (padded (recordOf ps)) 8 (length-bytes 8 count))
-    ∙ record-back ps (replicate (9 - length (recordOf ps)) 0)
+    ∙ record-back ps (replicate (longestRecord - length (recordOf ps)) 0)
 
-laid-length : (kind count : ℕ) (ps : List ℕ) → length ps ≤ 4 → length (laid kind count ps) ≡ 18
+laid-length : (kind count : ℕ) (ps : List ℕ) → length ps ≤ mostPositions → length (laid kind count ps) ≡ verdictLength
 laid-length kind count ps h =
-    let n : length (recordOf ps) ≤ 9 = omega (arith, record-length ps) in
+    let n : length (recordOf ps) ≤ longestRecord = omega (arith, record-length ps) in
     omega (arith, length-append (bytes 8 count) (padded (recordOf ps)), length-bytes 8 count, padded-length (recordOf ps) n)
 
--- of a verdict's pattern, not more positions than there is room for
-pub data Few : Said → Type 0 where
-  few-intact : Few intact
-  few-repaired : {ps : List ℕ} → length ps ≤ 4 → Few (repaired ps)
-  few-several : {k : ℕ} {ps : List ℕ} → length ps ≤ 4 → Few (several k ps)
-  few-nothing : Few nothing
-
-pub few-said : (v : Verdict) → Few (said v)
-few-said Intact = few-intact
-few-said (Repaired p) = few-repaired (positions-most p)
-few-said (Several k p) = few-several (positions-most p)
-few-said None = few-nothing
-
-pub verdict-length : {v : Said} → Few v → length (verdictBytes v) ≡ 18
-unfolding verdictBytes
-verdict-length few-intact = laid-length 0 0 [] (omega arith)
-verdict-length (few-repaired {ps = ps} h) = laid-length 1 1 ps h
-verdict-length (few-several {k = k} {ps = ps} h) = laid-length 2 k ps h
-verdict-length few-nothing = laid-length 3 0 [] (omega arith)
-
 -- the number that a verdict's bytes give stands for the packet that the verdict hands back
-pub published-handed : {v : Said} → Few v → (received copy : List ℕ) → published (publishCode (verdictBytes v)) received copy ≡ handedBack v received copy
+pub published-handed : (v : Verdict) (received copy : List ℕ) → published (publishCode (verdictBytes (said v))) received copy ≡ handedBack (said v) received copy
 unfolding verdictBytes publishCode
-published-handed few-intact received copy = rw (eq-eqb _ 18 (laid-length 0 0 [] (omega arith)))
-published-handed (few-repaired {ps = ps} h) received copy = rw (eq-eqb _ 18 (laid-length 1 1 ps h))
-published-handed (few-several {k = k} {ps = ps} h) received copy = rw (eq-eqb _ 18 (laid-length 2 k ps h))
-published-handed few-nothing received copy = rw (eq-eqb _ 18 (laid-length 3 0 [] (omega arith)))
+published-handed Intact received copy = rw (eq-eqb _ verdictLength (laid-length 0 0 [] (omega arith)))
+published-handed (Repaired p) received copy = rw (eq-eqb _ verdictLength (laid-length 1 1 (positions p) (positions-most p)))
+published-handed (Several k p) received copy = rw (eq-eqb _ verdictLength (laid-length 2 k (positions p) (positions-most p)))
+published-handed None received copy = rw (eq-eqb _ verdictLength (laid-length 3 0 [] (omega arith)))

@@ -1,23 +1,10 @@
--- The page call for a C caller: what it is given, and what the memory lent to it then holds.
+-- The page call for a C caller: what the memory lent to it then holds.
 use Prim.Native.Nat.{ℕ}
 use mathlib.Core.List.{List}
 use Rattle.base.specs.Outcome.{Outcome}
 use Rattle.patterns.specs.Pages.{Page}
-use Rattle.pages.specs.Conditions.{Request}
 use Rattle.rangqoda.specs.Codes.{changed}
 use Rattle.rangqoda.specs.Marks.{markBytes}
-
-abbrev pub asked : ℕ → ℕ → ℕ → ℕ → List ℕ → List ℕ → List ℕ → Request
-asked generator bits limit syndrome steps firsts output =
-    record {
-      generator = generator;
-      bits = bits;
-      limit = limit;
-      syndrome = syndrome;
-      steps = steps;
-      firsts = firsts;
-      output = output;
-    }
 
 -- the mark's bytes, the number of bytes used and the number of records written, after a call of this answer
 abbrev pub markAfter : List ℕ → Outcome Page → List ℕ

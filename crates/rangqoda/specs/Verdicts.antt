@@ -1,15 +1,19 @@
--- Verdicts as bytes, eighteen of them: the kind, how many patterns pass, and the record of one with zeros behind it.
-use Prim.Native.Nat.{ℕ}
+-- Verdicts as bytes: the kind, how many patterns pass in eight bytes, and the record of one with zeros behind it.
+use Prim.Native.Nat.{ℕ, _+_}
 use mathlib.Core.List.{List, [], _∷_, _++_}
 use lib.Dec.{eqb}
 use lib.ListN.{length, getD, drop}
 use Rattle.base.specs.Outcome.{pick}
 use Rattle.packet.specs.Packet.{bytes}
-use Rattle.patterns.specs.Pages.{recordOf}
+use Rattle.patterns.specs.Records.{recordOf, longestRecord, recordIn}
 use Rattle.repair.specs.Verdicts.{Said, intact, repaired, several, nothing}
-use Rattle.rangqoda.specs.Marks.{recordIn, padded}
+use Rattle.rangqoda.specs.Marks.{padded}
 
--- a kind, a number in eight bytes, high byte first, and a record in nine
+-- how many bytes there are
+abbrev pub verdictLength : ℕ
+verdictLength = 9 + longestRecord
+
+-- a kind, a number in eight bytes, high byte first, and a record
 abbrev pub laid : ℕ → ℕ → List ℕ → List ℕ
 laid kind count ps = kind ∷ (bytes 8 count ++ padded (recordOf ps))
 
@@ -17,7 +21,7 @@ laid kind count ps = kind ∷ (bytes 8 count ++ padded (recordOf ps))
 unfoldable pub verdictBytes : Said → List ℕ
 verdictBytes intact = laid 0 0 []
 verdictBytes (repaired p) = laid 1 1 p
-verdictBytes (several k p) = laid 2 k p
+verdictBytes (several n p) = laid 2 n p
 verdictBytes nothing = laid 3 0 []
 
 -- the pattern whose record stands in a verdict's bytes
@@ -26,7 +30,7 @@ patternIn s = recordIn (drop 9 s)
 
 -- what to publish from, by a verdict's bytes: 0 for the received packet, 1 for the copy, 2 for nothing
 unfoldable pub publishCode : List ℕ → ℕ
-publishCode s = pick (eqb (length s) 18) (pick (eqb (getD s 0 0) 0) 0 (pick (eqb (getD s 0 0) 1) 1 2)) 2
+publishCode s = pick (eqb (length s) verdictLength) (pick (eqb (getD s 0 0) 0) 0 (pick (eqb (getD s 0 0) 1) 1 2)) 2
 
 -- the bytes that such a number stands for
 abbrev pub published : ℕ → List ℕ → List ℕ → List ℕ

@@ -1,10 +1,11 @@
 // The library as C functions, which include/rangqoda.h documents. Each calls one call of the layers below and takes its
 // answer apart: a number is returned, and what else there is to tell goes into lent memory.
-use base::Refusal;
 use checksum::StampAnswer;
 use packet::RemainderAnswer;
 use packet::SealAnswer;
 use pages::PageAnswer;
+use patterns::LONGEST_RECORD;
+use patterns::MOST_POSITIONS;
 use patterns::Mark;
 use patterns::Pattern;
 use repair::RepairAnswer;
@@ -12,35 +13,36 @@ use repair::Verdict;
 use tables::TablesAnswer;
 ghost use mathlib.Core.Path.{_≡_};
 ghost use mathlib.Core.List.{[], _∷_};
-ghost use Prim.Native.Nat.{_+_, _*_, _<_, _≤_};
+ghost use Prim.Native.Nat.{_≤_};
 ghost use lib.Dec.{eqb};
-ghost use lib.ListN.{length, getD, drop, replicate};
+ghost use lib.ListN.{length, drop, replicate};
 ghost use Rattle.base.specs.Outcome.{pick};
-ghost use Rattle.base.specs.Refusals.{number};
-ghost use Rattle.packet.specs.Packet.{bytes};
+ghost use Rattle.packet.specs.Packet.{bytes, crcOf};
 ghost use Rattle.packet.specs.Calls.{remainderCall, sealCall, sealPacket};
+ghost use Rattle.checksum.specs.Checksum.{checkOf};
 ghost use Rattle.checksum.specs.Calls.{sumCall, stampCall, stampPacket};
 ghost use Rattle.tables.specs.Calls.{tablesCall, stepsAfter, firstsAfter};
-ghost use Rattle.patterns.specs.Patterns.{positions, placeOf};
-ghost use Rattle.patterns.specs.Pages.{recordOf};
+ghost use Rattle.patterns.specs.Patterns.{mostPositions, positions, placeOf};
+ghost use Rattle.patterns.specs.Records.{recordOf, longestRecord, positionsIn};
+ghost use Rattle.pages.specs.Conditions.{pageRequest};
 ghost use Rattle.pages.specs.Calls.{pageCall, pageLeft};
 ghost use Rattle.repair.specs.Verdicts.{said};
-ghost use Rattle.repair.specs.Calls.{repairCall};
+ghost use Rattle.repair.specs.Calls.{repairCall, NamesWell};
 ghost use Rattle.rangqoda.specs.Codes.{code, changed};
-ghost use Rattle.rangqoda.specs.Marks.{placesIn, placeOfBytes, malformed, padded, markBytes};
-ghost use Rattle.rangqoda.specs.Pages.{asked, markAfter, usedAfter, writtenAfter};
-ghost use Rattle.rangqoda.specs.Verdicts.{laid, verdictBytes, patternIn, publishCode};
-ghost use Rattle.rangqoda.specs.Repairs.{handed, verdictAfter, outputAfter, NamesWell};
+ghost use Rattle.rangqoda.specs.Marks.{placeOfBytes, malformed, padded, markBytes};
+ghost use Rattle.rangqoda.specs.Pages.{markAfter, usedAfter, writtenAfter};
+ghost use Rattle.rangqoda.specs.Verdicts.{verdictLength, laid, verdictBytes, patternIn, publishCode};
+ghost use Rattle.rangqoda.specs.Repairs.{handed, verdictAfter, outputAfter};
 
 // A mark's bytes: how many, and the first of them where it has no pattern.
-const MARK_BYTES: usize = 9;
+const MARK_BYTES: usize = LONGEST_RECORD;
 
 const START: u8 = 0xFE;
 
 const ENDED: u8 = 0xFF;
 
 // A verdict's bytes: how many, and the first of them.
-const VERDICT_BYTES: usize = 18;
+const VERDICT_BYTES: usize = 9 + LONGEST_RECORD;
 
 const INTACT: u8 = 0;
 
@@ -57,32 +59,14 @@ const COPY: u32 = 1;
 
 const NOTHING: u32 = 2;
 
-// The number of the condition that turns a call down.
-fn code_of(r: Refusal) -> u32
-    ensures { λ c. ⌜ c ≡ number r ⌝ }
-{
-    match r {
-        Refusal::Generator => 1,
-        Refusal::Length => 2,
-        Refusal::Limit => 3,
-        Refusal::Syndrome => 4,
-        Refusal::TableLength => 5,
-        Refusal::TableEntry => 6,
-        Refusal::Mark => 7,
-        Refusal::Output => 8,
-        Refusal::Range => 9,
-        Refusal::Field => 10,
-    }
-}
-
 #[no_mangle]
 pub extern "C" fn rangqoda_remainder(generator: u64, packet: &[u8], remainder: &mut u64) -> u32
-    ensures answer { λ r. ⌜ r ≡ code (remainderCall generator (now (packet .entry))) ⌝ }
-    ensures remainder { λ _. ⌜ now (remainder .exit) ≡ changed (now (remainder .entry)) (λ v. v) (remainderCall generator (now (packet .entry))) ⌝ }
+    ensures answer { λ r. ⌜ r ≡ code (remainderCall (crcOf generator) (now (packet .entry))) ⌝ }
+    ensures remainder { λ _. ⌜ now (remainder .exit) ≡ changed (now (remainder .entry)) (λ v. v) (remainderCall (crcOf generator) (now (packet .entry))) ⌝ }
 {
     let answer = packet::remainder(generator, packet);
     match answer {
-        RemainderAnswer::Refused(r) => code_of(r),
+        RemainderAnswer::Refused(r) => base::number_of(r),
         RemainderAnswer::Remainder(v) => {
             *remainder = v;
             0
@@ -92,12 +76,12 @@ pub extern "C" fn rangqoda_remainder(generator: u64, packet: &[u8], remainder: &
 
 #[no_mangle]
 pub extern "C" fn rangqoda_seal(generator: u64, packet: &mut [u8]) -> u32
-    ensures answer { λ r. ⌜ r ≡ code (sealCall generator (now (packet .entry))) ⌝ }
-    ensures packet { λ _. ⌜ now (packet .exit) ≡ sealPacket generator (now (packet .entry)) ⌝ }
+    ensures answer { λ r. ⌜ r ≡ code (sealCall (crcOf generator) (now (packet .entry))) ⌝ }
+    ensures packet { λ _. ⌜ now (packet .exit) ≡ sealPacket (crcOf generator) (now (packet .entry)) ⌝ }
 {
     let answer = packet::seal(generator, packet);
     match answer {
-        SealAnswer::Refused(r) => code_of(r),
+        SealAnswer::Refused(r) => base::number_of(r),
         SealAnswer::Sealed => 0,
     }
 }
@@ -117,12 +101,13 @@ pub extern "C" fn rangqoda_stamp(
     field: usize,
     packet: &mut [u8],
 ) -> u32
-    ensures answer { λ r. ⌜ r ≡ code (stampCall generator start end field (now (packet .entry))) ⌝ }
-    ensures packet { λ _. ⌜ now (packet .exit) ≡ stampPacket generator start end field (now (packet .entry)) ⌝ }
+    ensures answer { λ r. ⌜ r ≡ code (stampCall generator (checkOf start end) field (now (packet .entry))) ⌝ }
+    ensures packet { λ _. ⌜ now (packet .exit) ≡ stampPacket generator (checkOf start end) field (now (packet .entry)) ⌝ }
 {
-    let answer = checksum::stamp(generator, start, end, field, packet);
+    let check = checksum::check_of(start, end);
+    let answer = checksum::stamp(generator, check, field, packet);
     match answer {
-        StampAnswer::Refused(r) => code_of(r),
+        StampAnswer::Refused(r) => base::number_of(r),
         StampAnswer::Stamped => 0,
     }
 }
@@ -141,7 +126,7 @@ pub extern "C" fn rangqoda_tables(
 {
     let answer = tables::tables(generator, step, first);
     match answer {
-        TablesAnswer::Refused(r) => code_of(r),
+        TablesAnswer::Refused(r) => base::number_of(r),
         TablesAnswer::Built(v) => {
             *period = v;
             0
@@ -156,24 +141,13 @@ fn no_mark() -> Mark
     Mark::After(Pattern::Two(0, 0))
 }
 
-// The position in the two bytes at `at`.
-fn position_at(bytes: &[u8], at: usize) -> u16
-    requires { ⌜ at + 1 < length (now bytes) ⌝ }
-    ensures { λ r. ⌜ r ≡ getD (now (bytes .entry)) at 0 * 256 + getD (now (bytes .entry)) (at + 1) 0 ⌝ }
-{
-    bytes[at] as u16 * 256 + bytes[at + 1] as u16
-}
-
 // The pattern whose record stands in a mark's bytes.
 fn read_pattern(bytes: &[u8], count: usize) -> Pattern
-    requires { ⌜ (length (now bytes) ≡ 9) × (count ≤ 4) ⌝ }
-    ensures { λ r. ⌜ positions r ≡ placesIn count (drop 1 (now (bytes .entry))) ⌝ }
+    requires { ⌜ (length (now bytes) ≡ longestRecord) × (count ≤ mostPositions) ⌝ }
+    ensures { λ r. ⌜ positions r ≡ positionsIn count (drop 1 (now (bytes .entry))) ⌝ }
 {
-    let a = position_at(bytes, 1);
-    let b = position_at(bytes, 3);
-    let c = position_at(bytes, 5);
-    let d = position_at(bytes, 7);
-    let held = [a, b, c, d];
+    let mut held = [0u16; MOST_POSITIONS];
+    patterns::get_positions(&bytes[1..], &mut held);
     patterns::from_positions(&held[..count])
 }
 
@@ -190,10 +164,11 @@ fn read_mark(bytes: &[u8]) -> Mark
     if kind == ENDED {
         return Mark::Ended;
     }
-    if 4 < kind {
+    let count = kind as usize;
+    if MOST_POSITIONS < count {
         return no_mark();
     }
-    Mark::After(read_pattern(bytes, kind as usize))
+    Mark::After(read_pattern(bytes, count))
 }
 
 fn clear(bytes: &mut [u8])
@@ -206,9 +181,9 @@ fn clear(bytes: &mut [u8])
     }
 }
 
-// The record of some positions, with zeros behind it, into nine bytes.
+// The record of some positions, with zeros behind it.
 fn put_padded(pos: &[u16], bytes: &mut [u8])
-    requires { ⌜ (length (now pos) ≤ 4) × (length (now bytes) ≡ 9) ⌝ }
+    requires { ⌜ (length (now pos) ≤ mostPositions) × (length (now bytes) ≡ longestRecord) ⌝ }
     ensures { λ _. ⌜ now (bytes .exit) ≡ padded (recordOf (now (pos .entry))) ⌝ }
 {
     clear(bytes);
@@ -216,7 +191,7 @@ fn put_padded(pos: &[u16], bytes: &mut [u8])
 }
 
 fn put_pattern(p: Pattern, bytes: &mut [u8])
-    requires { ⌜ length (now bytes) ≡ 9 ⌝ }
+    requires { ⌜ length (now bytes) ≡ longestRecord ⌝ }
     ensures { λ _. ⌜ now (bytes .exit) ≡ padded (recordOf (positions p)) ⌝ }
 {
     let held = patterns::spread(p);
@@ -226,7 +201,7 @@ fn put_pattern(p: Pattern, bytes: &mut [u8])
 
 // A mark of one byte.
 fn put_kind(kind: u8, bytes: &mut [u8])
-    requires { ⌜ length (now bytes) ≡ 9 ⌝ }
+    requires { ⌜ length (now bytes) ≡ longestRecord ⌝ }
     ensures { λ _. ⌜ now (bytes .exit) ≡ padded (kind ∷ []) ⌝ }
 {
     clear(bytes);
@@ -234,7 +209,7 @@ fn put_kind(kind: u8, bytes: &mut [u8])
 }
 
 fn put_mark(m: Mark, bytes: &mut [u8])
-    requires { ⌜ length (now bytes) ≡ 9 ⌝ }
+    requires { ⌜ length (now bytes) ≡ longestRecord ⌝ }
     ensures { λ _. ⌜ now (bytes .exit) ≡ markBytes (placeOf m) ⌝ }
 {
     match m {
@@ -257,16 +232,16 @@ pub extern "C" fn rangqoda_page(
     used: &mut usize,
     written: &mut u64,
 ) -> u32
-    ensures answer { λ r. ⌜ r ≡ code (pageCall (asked generator length limit syndrome (now (step .entry)) (now (first .entry)) (now (output .entry))) (placeOfBytes (now (mark .entry)))) ⌝ }
-    ensures mark { λ _. ⌜ now (mark .exit) ≡ markAfter (now (mark .entry)) (pageCall (asked generator length limit syndrome (now (step .entry)) (now (first .entry)) (now (output .entry))) (placeOfBytes (now (mark .entry)))) ⌝ }
-    ensures output { λ _. ⌜ now (output .exit) ≡ pageLeft (asked generator length limit syndrome (now (step .entry)) (now (first .entry)) (now (output .entry))) (placeOfBytes (now (mark .entry))) ⌝ }
-    ensures used { λ _. ⌜ now (used .exit) ≡ usedAfter (now (used .entry)) (pageCall (asked generator length limit syndrome (now (step .entry)) (now (first .entry)) (now (output .entry))) (placeOfBytes (now (mark .entry)))) ⌝ }
-    ensures written { λ _. ⌜ now (written .exit) ≡ writtenAfter (now (written .entry)) (pageCall (asked generator length limit syndrome (now (step .entry)) (now (first .entry)) (now (output .entry))) (placeOfBytes (now (mark .entry)))) ⌝ }
+    ensures answer { λ r. ⌜ r ≡ code (pageCall (pageRequest generator length limit syndrome (now (step .entry)) (now (first .entry)) (now (output .entry))) (placeOfBytes (now (mark .entry)))) ⌝ }
+    ensures mark { λ _. ⌜ now (mark .exit) ≡ markAfter (now (mark .entry)) (pageCall (pageRequest generator length limit syndrome (now (step .entry)) (now (first .entry)) (now (output .entry))) (placeOfBytes (now (mark .entry)))) ⌝ }
+    ensures output { λ _. ⌜ now (output .exit) ≡ pageLeft (pageRequest generator length limit syndrome (now (step .entry)) (now (first .entry)) (now (output .entry))) (placeOfBytes (now (mark .entry))) ⌝ }
+    ensures used { λ _. ⌜ now (used .exit) ≡ usedAfter (now (used .entry)) (pageCall (pageRequest generator length limit syndrome (now (step .entry)) (now (first .entry)) (now (output .entry))) (placeOfBytes (now (mark .entry)))) ⌝ }
+    ensures written { λ _. ⌜ now (written .exit) ≡ writtenAfter (now (written .entry)) (pageCall (pageRequest generator length limit syndrome (now (step .entry)) (now (first .entry)) (now (output .entry))) (placeOfBytes (now (mark .entry)))) ⌝ }
 {
     let at = read_mark(mark);
     let answer = pages::page(generator, length, limit, syndrome, step, first, at, output);
     match answer {
-        PageAnswer::Refused(r) => code_of(r),
+        PageAnswer::Refused(r) => base::number_of(r),
         PageAnswer::Paged(p) => {
             let next = p.next;
             *used = p.used;
@@ -292,16 +267,16 @@ fn put_number(value: u64, out: &mut [u8])
 
 // A verdict's kind, the number of patterns that pass, and the record of one.
 fn put_parts(kind: u8, count: u64, p: Pattern, bytes: &mut [u8])
-    requires { ⌜ length (now bytes) ≡ 18 ⌝ }
+    requires { ⌜ length (now bytes) ≡ verdictLength ⌝ }
     ensures { λ _. ⌜ now (bytes .exit) ≡ laid kind count (positions p) ⌝ }
 {
     bytes[0] = kind;
     put_number(count, &mut bytes[1..9]);
-    put_pattern(p, &mut bytes[9..18]);
+    put_pattern(p, &mut bytes[9..VERDICT_BYTES]);
 }
 
 fn put_verdict(v: Verdict, bytes: &mut [u8])
-    requires { ⌜ length (now bytes) ≡ 18 ⌝ }
+    requires { ⌜ length (now bytes) ≡ verdictLength ⌝ }
     ensures { λ _. ⌜ now (bytes .exit) ≡ verdictBytes (said v) ⌝ }
 {
     match v {
@@ -314,7 +289,7 @@ fn put_verdict(v: Verdict, bytes: &mut [u8])
 
 // How much of an output may be written, by the place that there is for the verdict.
 fn room_for(verdict: usize, output: usize) -> usize
-    ensures { λ r. ⌜ r ≡ pick (eqb verdict 18) output 0 ⌝ }
+    ensures { λ r. ⌜ r ≡ pick (eqb verdict verdictLength) output 0 ⌝ }
 {
     if verdict == VERDICT_BYTES {
         return output;
@@ -334,16 +309,16 @@ pub extern "C" fn rangqoda_repair(
     output: &mut [u8],
     verdict: &mut [u8],
 ) -> u32
-    ensures answer { λ r. ⌜ r ≡ code (repairCall (handed generator start end limit (now (step .entry)) (now (first .entry)) (now (packet .entry)) (now (output .entry)) (now (verdict .entry))) (patternIn (now (verdict .exit)))) ⌝ }
-    ensures verdict { λ _. ⌜ now (verdict .exit) ≡ verdictAfter (now (verdict .entry)) (repairCall (handed generator start end limit (now (step .entry)) (now (first .entry)) (now (packet .entry)) (now (output .entry)) (now (verdict .entry))) (patternIn (now (verdict .exit)))) ⌝ }
-    ensures names { λ _. ⌜ NamesWell (handed generator start end limit (now (step .entry)) (now (first .entry)) (now (packet .entry)) (now (output .entry)) (now (verdict .entry))) (repairCall (handed generator start end limit (now (step .entry)) (now (first .entry)) (now (packet .entry)) (now (output .entry)) (now (verdict .entry))) (patternIn (now (verdict .exit)))) ⌝ }
-    ensures output { λ _. ⌜ now (output .exit) ≡ outputAfter (handed generator start end limit (now (step .entry)) (now (first .entry)) (now (packet .entry)) (now (output .entry)) (now (verdict .entry))) (now (output .entry)) (now (verdict .entry)) ⌝ }
+    ensures answer { λ r. ⌜ r ≡ code (repairCall (handed (crcOf generator) (checkOf start end) limit (now (step .entry)) (now (first .entry)) (now (packet .entry)) (now (output .entry)) (now (verdict .entry))) (patternIn (now (verdict .exit)))) ⌝ }
+    ensures verdict { λ _. ⌜ now (verdict .exit) ≡ verdictAfter (now (verdict .entry)) (repairCall (handed (crcOf generator) (checkOf start end) limit (now (step .entry)) (now (first .entry)) (now (packet .entry)) (now (output .entry)) (now (verdict .entry))) (patternIn (now (verdict .exit)))) ⌝ }
+    ensures names { λ _. ⌜ NamesWell (handed (crcOf generator) (checkOf start end) limit (now (step .entry)) (now (first .entry)) (now (packet .entry)) (now (output .entry)) (now (verdict .entry))) (repairCall (handed (crcOf generator) (checkOf start end) limit (now (step .entry)) (now (first .entry)) (now (packet .entry)) (now (output .entry)) (now (verdict .entry))) (patternIn (now (verdict .exit)))) ⌝ }
+    ensures output { λ _. ⌜ now (output .exit) ≡ outputAfter (handed (crcOf generator) (checkOf start end) limit (now (step .entry)) (now (first .entry)) (now (packet .entry)) (now (output .entry)) (now (verdict .entry))) (now (output .entry)) (now (verdict .entry)) ⌝ }
 {
     let room = room_for(verdict.len(), output.len());
+    let check = checksum::check_of(start, end);
     let answer = repair::repair(
         generator,
-        start,
-        end,
+        check,
         limit,
         step,
         first,
@@ -351,8 +326,8 @@ pub extern "C" fn rangqoda_repair(
         &mut output[..room],
     );
     match answer {
-        RepairAnswer::Refused(r) => code_of(r),
-        RepairAnswer::Told(v) => {
+        RepairAnswer::Refused(r) => base::number_of(r),
+        RepairAnswer::Decided(v) => {
             put_verdict(v, verdict);
             0
         }

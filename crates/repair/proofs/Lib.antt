@@ -1,9 +1,6 @@
-pub mod WeighLaws
 pub mod TallyLaws
 pub mod ConditionLaws
 pub mod SettleLaws
 pub mod CallLaws
 pub mod VerdictLaws
 pub mod SentLaws
-pub mod WorkedRows
-pub mod Demand3

@@ -6,18 +6,18 @@ use Prim.Native.Nat.{ℕ, _<_}
 use native.Mathlib.Omega.{arith}
 use lib.ListN.{length}
 use Rattle.base.specs.Lists.{In, here, All}
-use Rattle.base.specs.Outcome.{pick}
+use Rattle.base.specs.Outcome.{accepted, pick}
+use Rattle.base.proofs.ListLaws.{ascending-all}
 use Rattle.packet.specs.Packet.{flips}
 use Rattle.patterns.specs.Patterns.{positions}
 use Rattle.patterns.specs.Listing.{listing, sift}
 use Rattle.patterns.proofs.SiftLaws.{sift-in}
 use Rattle.patterns.proofs.ListingLaws.{listed-iff}
-use Rattle.repair.specs.Steps.{earliest}
+use Rattle.repair.specs.Tallies.{earliest}
 use Rattle.repair.specs.Verdicts.{Said, intact, repaired, several, nothing, said, settled, mended}
-use Rattle.repair.specs.Calls.{namedBy}
+use Rattle.repair.specs.Calls.{namedIn}
 use Rattle.repair.specs.declared.Verdict.{Verdict}
 use Rattle.repair.specs.declared.Verdict.the-variants.{Intact, Repaired, Several, None}
-use Rattle.repair.proofs.WeighLaws.{ascending-all}
 
 clash : {A : Type 0} → _≡_ {A = ℕ} 0 1 → A
 clash e = absurd (omega arith)
@@ -79,7 +79,7 @@ other-named false (c ∷ []) v h e q = e
 other-named false (c ∷ d ∷ cs) v h e q = absurd (h (length (c ∷ d ∷ cs)) c e)
 
 pub verdict-named : (sound : Bool) (cs : List (List ℕ)) (v : Verdict) → said v ≡ pick sound intact (settled cs (earliest cs))
-    → said v ≡ pick sound intact (settled cs (namedBy v))
+    → said v ≡ pick sound intact (settled cs (namedIn (accepted (said v))))
 verdict-named sound cs Intact e = other-named sound cs intact (λ k p f. clash cc) e []
 verdict-named sound cs (Repaired q) e = other-named sound cs (repaired (positions q)) (λ k p f. clash cc) e []
 verdict-named sound cs (Several k p) e = several-named sound cs k (positions p) e

@@ -5,41 +5,41 @@ use mathlib.Core.List.{List, [], _∷_, _++_, append-nil, append-assoc}
 use Prim.Native.Nat.{ℕ, _+_, _^_, _-_, _<_, _≤_}
 use native.Mathlib.Omega.{arith}
 use lib.ListN.{length, take, length-append}
+use Rattle.base.specs.Lists.{Ascending}
 use Rattle.base.proofs.Cases.{by-test}
 use Rattle.patterns.specs.Patterns.{positions, start}
 use Rattle.patterns.specs.Marks.{remaining}
 use Rattle.patterns.specs.Order.{before}
-use Rattle.patterns.specs.Listing.{Ascending, sift}
+use Rattle.patterns.specs.Listing.{sift}
 use Rattle.patterns.specs.declared.Pattern.{Pattern}
 use Rattle.patterns.proofs.FollowLaws.{remaining-start}
 use Rattle.patterns.proofs.SiftLaws.{sift-keep, sift-skip}
 use Rattle.search.specs.Search.{Told}
 use Rattle.search.specs.declared.Found.{Found}
 use Rattle.search.specs.declared.Found.the-variants.{At, Nothing}
-use Rattle.pages.specs.Filling.{FoundFits, aheadOf}
-use Rattle.pages.proofs.FillLaws.{told-ahead-of}
-use Rattle.pages.proofs.SearchLaws.{told-ahead}
-use Rattle.repair.specs.Steps.{Tallied, added, earliest}
+use Rattle.cursor.specs.Cursors.{FoundFits, aheadOf}
+use Rattle.cursor.proofs.AheadLaws.{told-ahead, told-ahead-of}
+use Rattle.repair.specs.Tallies.{Tallied, added, earliest}
 use Rattle.repair.specs.Verdicts.{nothing, repaired, several, settled}
 use Rattle.repair.specs.declared.Tally.{Tally}
 
 -- ---- one candidate
 
-pub noted-not : (ok : Bool) (p : List ℕ) {t : Tally} → not ok ≡ true → (kept : List (List ℕ)) → Tallied kept t → Tallied (kept ++ added ok p) t
-noted-not true p e kept h = absurd (let z : _≡_ {A = ℕ} 0 1 = cc in omega arith)
-noted-not false p e kept h = rw (append-nil kept) h
+pub one-fails : (ok : Bool) (p : List ℕ) {t : Tally} → not ok ≡ true → (kept : List (List ℕ)) → Tallied kept t → Tallied (kept ++ added ok p) t
+one-fails true p e kept h = absurd (let z : _≡_ {A = ℕ} 0 1 = cc in omega arith)
+one-fails false p e kept h = rw (append-nil kept) h
 
-pub noted-first : (ok : Bool) (p : List ℕ) {t : Tally} {q : Pattern} → not ok ≡ false → t .count ≡ 0 → positions q ≡ p → (kept : List (List ℕ)) → Tallied kept t
+pub first-passes : (ok : Bool) (p : List ℕ) {t : Tally} {q : Pattern} → not ok ≡ false → t .count ≡ 0 → positions q ≡ p → (kept : List (List ℕ)) → Tallied kept t
     → Tallied (kept ++ added ok p) (record { count = 1; chosen = q })
-noted-first true p e z n [] h = record { number = refl; first = n }
-noted-first true p e z n (k ∷ kept) h = absurd (omega (arith, h .number))
-noted-first false p e z n kept h = absurd (let z : _≡_ {A = ℕ} 0 1 = cc in omega arith)
+first-passes true p e z n [] h = record { number = refl; first = n }
+first-passes true p e z n (k ∷ kept) h = absurd (omega (arith, h .number))
+first-passes false p e z n kept h = absurd (let z : _≡_ {A = ℕ} 0 1 = cc in omega arith)
 
-pub noted-more : (ok : Bool) (p : List ℕ) {t : Tally} → not ok ≡ false → (t .count ≡ 0 → ⊥) → (kept : List (List ℕ)) → Tallied kept t
+pub another-passes : (ok : Bool) (p : List ℕ) {t : Tally} → not ok ≡ false → (t .count ≡ 0 → ⊥) → (kept : List (List ℕ)) → Tallied kept t
     → Tallied (kept ++ added ok p) (record { count = t .count + 1; chosen = t .chosen })
-noted-more true p e z [] h = absurd (z (h .number))
-noted-more true p e z (k ∷ kept) h = record { number = simp length-append (omega (arith, h .number)); first = h .first }
-noted-more false p e z kept h = absurd (let z : _≡_ {A = ℕ} 0 1 = cc in omega arith)
+another-passes true p e z [] h = absurd (z (h .number))
+another-passes true p e z (k ∷ kept) h = record { number = simp length-append (omega (arith, h .number)); first = h .first }
+another-passes false p e z kept h = absurd (let z : _≡_ {A = ℕ} 0 1 = cc in omega arith)
 
 -- ---- the whole list
 

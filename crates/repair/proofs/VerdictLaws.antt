@@ -1,4 +1,4 @@
--- The verdict in document 01's words. For a listed pattern the flipped packet's remainder is 0, so that a passing range
+-- The verdict in the words of docs/RULES.md. For a listed pattern the flipped packet's remainder is 0, so that a passing range
 -- is as much as passing both checks; and since the list ascends, one member is one set and several are several sets.
 use mathlib.Core.Path.{_≡_, refl, sym, ap, _∙_}
 use mathlib.Core.Bool.{true, false, true≢false}
@@ -9,25 +9,23 @@ use native.Mathlib.Omega.{arith}
 use borrow.Author.Tests.{eq-eqb}
 use lib.Bits.{bitXor, xor-self}
 use lib.ListN.{length}
-use Rattle.base.specs.Lists.{In, here, there}
+use Rattle.base.specs.Lists.{In, here, there, Ascending}
 use Rattle.base.proofs.Cases.{by-test}
-use Rattle.poly.specs.Polynomial.{degree}
-use Rattle.poly.specs.Generators.{unfit}
-use Rattle.poly.proofs.GeneratorLaws.{fit-accepted}
+use Rattle.base.proofs.ListLaws.{in-nothing, ascending-all}
+use Rattle.poly.specs.Fit.{Fit}
 use Rattle.packet.specs.Packet.{Bytes, bits, remainder, flips}
-use Rattle.packet.proofs.FlipLaws.{remainder-flips}
+use Rattle.packet.specs.declared.Crc.{Crc}
+use Rattle.packet.proofs.RemainderLaws.{remainder-flips}
 use Rattle.checksum.specs.Checksum.{passes}
+use Rattle.checksum.specs.declared.Check.{Check}
 use Rattle.patterns.specs.Order.{before}
 use Rattle.patterns.specs.StrictOrder.{Sorted}
 use Rattle.patterns.specs.Listing.{syndrome}
 use Rattle.patterns.proofs.OrderLaws.{before-strict-total}
-use Rattle.patterns.proofs.MemberLaws.{in-nothing}
 use Rattle.patterns.proofs.SiftLaws.{sift-in, in-sift, sift-same}
 use Rattle.patterns.proofs.SortedLaws.{sorted-head, sorted-sift}
 use Rattle.patterns.proofs.ListingLaws.{listed-iff, listing-sorted}
-use Rattle.repair.specs.Verdicts.{passesBoth, packetList, candidates, Said, intact, repaired, several, nothing, settled, verdict, mended, output}
-use Rattle.repair.specs.Demand.{Leads, leading}
-use Rattle.repair.proofs.WeighLaws.{ascending-all}
+use Rattle.repair.specs.Verdicts.{passesBoth, packetList, candidates, Said, intact, repaired, several, nothing, settled, verdict, mended, outputFor, Leads, leading}
 
 -- ---- one, none or several members of an ascending list ----
 
@@ -87,31 +85,31 @@ module _ (named : List ℕ) where
   more-several (x ∷ y ∷ ys) h = refl
 
   -- what is said of a packet that does not pass, and what is said at all
-  unpassed : (g a e limit : ℕ) (s : List ℕ) → passesBoth g a e s ≡ false → verdict g a e limit s named ≡ settled (candidates g a e limit s) named
-  unpassed g a e limit s h = rw h
+  unpassed : (c : Crc) (k : Check) (limit : ℕ) (s : List ℕ) → passesBoth c k s ≡ false → verdict c k limit s named ≡ settled (candidates c k limit s) named
+  unpassed c k limit s h = rw h
 
-  unless-intact : (g a e limit : ℕ) (s : List ℕ) (v : Said) → (v ≡ intact → ⊥) → verdict g a e limit s named ≡ v
-      → (passesBoth g a e s ≡ false) × (settled (candidates g a e limit s) named ≡ v)
-  unless-intact g a e limit s v other h =
-      by-test (passesBoth g a e s) (λ t. absurd (other (sym (rw t at h)))) (λ t. (t, rw t at h))
+  unless-intact : (c : Crc) (k : Check) (limit : ℕ) (s : List ℕ) (v : Said) → (v ≡ intact → ⊥) → verdict c k limit s named ≡ v
+      → (passesBoth c k s ≡ false) × (settled (candidates c k limit s) named ≡ v)
+  unless-intact c k limit s v other h =
+      by-test (passesBoth c k s) (λ t. absurd (other (sym (rw t at h)))) (λ t. (t, rw t at h))
 
   -- intact exactly when the packet passes both checks
-  pub verdict-intact : (g a e limit : ℕ) (s : List ℕ) → verdict g a e limit s named ≡ intact ↔ (passesBoth g a e s ≡ true)
-  verdict-intact g a e limit s = (
-    λ h. by-test (passesBoth g a e s) (λ t. t) (λ t. absurd (never-intact (candidates g a e limit s) (rw t at h))),
+  pub verdict-intact : (c : Crc) (k : Check) (limit : ℕ) (s : List ℕ) → verdict c k limit s named ≡ intact ↔ (passesBoth c k s ≡ true)
+  verdict-intact c k limit s = (
+    λ h. by-test (passesBoth c k s) (λ t. t) (λ t. absurd (never-intact (candidates c k limit s) (rw t at h))),
     λ h. rw h,
   )
 
   -- the output is the flipped packet where the verdict is a repair, and stays as it was where it is none
-  pub output-repaired : (g a e limit : ℕ) (s p out : List ℕ) → verdict g a e limit s named ≡ repaired p → output g a e limit s out ≡ flips s p
-  output-repaired g a e limit s p out h =
-      let r = unless-intact g a e limit s (repaired p) (λ k. let z : _≡_ {A = ℕ} 0 1 = cc in omega arith) h in
-      rw (r .0, repaired-one (candidates g a e limit s) p (r .1))
+  pub output-repaired : (c : Crc) (k : Check) (limit : ℕ) (s p out : List ℕ) → verdict c k limit s named ≡ repaired p → outputFor c k limit s out ≡ flips s p
+  output-repaired c k limit s p out h =
+      let r = unless-intact c k limit s (repaired p) (λ k. let z : _≡_ {A = ℕ} 0 1 = cc in omega arith) h in
+      rw (r .0, repaired-one (candidates c k limit s) p (r .1))
 
-  pub output-unchanged : (g a e limit : ℕ) (s out : List ℕ) → ((p : List ℕ) → verdict g a e limit s named ≡ repaired p → ⊥) → output g a e limit s out ≡ out
-  output-unchanged g a e limit s out other =
-      by-test (passesBoth g a e s) (λ t. rw t)
-      (λ t. rw t (unmended (candidates g a e limit s) (λ p h. other p (unpassed g a e limit s t ∙ h))))
+  pub output-unchanged : (c : Crc) (k : Check) (limit : ℕ) (s out : List ℕ) → ((p : List ℕ) → verdict c k limit s named ≡ repaired p → ⊥) → outputFor c k limit s out ≡ out
+  output-unchanged c k limit s out other =
+      by-test (passesBoth c k s) (λ t. rw t)
+      (λ t. rw t (unmended (candidates c k limit s) (λ p h. other p (unpassed c k limit s t ∙ h))))
     where
       unmended : (xs : List (List ℕ)) → ((p : List ℕ) → settled xs named ≡ repaired p → ⊥) → mended xs s out ≡ out
       unmended [] f = refl
@@ -120,85 +118,87 @@ module _ (named : List ℕ) where
 
 -- ---- the listed sets that lead to a passing packet ----
 
-module _ (g a e limit : ℕ) (s : List ℕ) where
-  pub in-leading : (ps : List ℕ) → In ps (leading g a e limit s) ↔ Leads g a e limit s ps
+module _ (c : Crc) (k : Check) (limit : ℕ) (s : List ℕ) where
+  pub in-leading : (ps : List ℕ) → In ps (leading c k limit s) ↔ Leads c k limit s ps
   in-leading ps = (
-    λ h. let r = sift-in (λ qs. passesBoth g a e (flips s qs)) (packetList g limit s) h in record { listed = r .0; passing = r .1 },
-    λ l. in-sift (λ qs. passesBoth g a e (flips s qs)) (l .listed) (l .passing),
+    λ h. let r = sift-in (λ qs. passesBoth c k (flips s qs)) (packetList c limit s) h in record { listed = r .0; passing = r .1 },
+    λ l. in-sift (λ qs. passesBoth c k (flips s qs)) (l .listed) (l .passing),
   )
 
-  pub leading-sorted : Sorted before (leading g a e limit s)
-  leading-sorted = sorted-sift (λ qs. passesBoth g a e (flips s qs)) (listing-sorted (degree g) g (bits s) limit (remainder g s))
+  pub leading-sorted : Sorted before (leading c k limit s)
+  leading-sorted = sorted-sift (λ qs. passesBoth c k (flips s qs)) (listing-sorted (c .generator .degree) (c .generator .coefficients) (bits s) limit (remainder c s))
 
   -- more than one is two that differ
-  pub two-lead : 2 ≤ length (leading g a e limit s)
-      ↔ ((p : List ℕ) × (q : List ℕ) × Leads g a e limit s p × Leads g a e limit s q × (p ≡ q → ⊥))
+  pub two-lead : 2 ≤ length (leading c k limit s)
+      ↔ ((p : List ℕ) × (q : List ℕ) × Leads c k limit s p × Leads c k limit s q × (p ≡ q → ⊥))
   two-lead = (
-    λ h. let r = two-members (leading g a e limit s) leading-sorted h in (r .0, r .1, in-leading (r .0) .0 (r .2), in-leading (r .1) .0 (r .3), r .4),
-    λ r. members-two (leading g a e limit s) (in-leading (r .0) .1 (r .2)) (in-leading (r .1) .1 (r .3)) (r .4),
+    λ h. let r = two-members (leading c k limit s) leading-sorted h in (r .0, r .1, in-leading (r .0) .0 (r .2), in-leading (r .1) .0 (r .3), r .4),
+    λ r. members-two (leading c k limit s) (in-leading (r .0) .1 (r .2)) (in-leading (r .1) .1 (r .3)) (r .4),
   )
 
-module _ (g a e limit : ℕ) (s : List ℕ) (fit : unfit g ≡ false) (bs : Bytes s) where
-  -- flipping a listed pattern leaves remainder 0
-  pub listed-remainder : (ps : List ℕ) → In ps (packetList g limit s) → remainder g (flips s ps) ≡ 0
+module _ (c : Crc) (k : Check) (limit : ℕ) (s : List ℕ) (fit : Fit (c .generator)) (bs : Bytes s) where
+  -- flipping positions adds their syndrome to the remainder
+  pub remainder-syndrome : (ps : List ℕ) → Ascending (bits s) 0 ps
+      → remainder c (flips s ps) ≡ bitXor (remainder c s) (syndrome (c .generator .degree) (c .generator .coefficients) ps)
   unfolding syndrome
-  listed-remainder ps h =
-      let l = listed-iff (degree g) g (bits s) limit (remainder g s) ps .0 h in
-      remainder-flips g s ps (fit-accepted g fit .divisor) (ascending-all (l .0)) bs
-      ∙ ap (bitXor (remainder g s)) (l .2)
-      ∙ xor-self (remainder g s)
+  remainder-syndrome ps h = remainder-flips c (fit .divisor) s ps (ascending-all h) bs
 
-  -- so that passing the range is passing both
-  pub listed-passes : (ps : List ℕ) → In ps (packetList g limit s) → passesBoth g a e (flips s ps) ≡ passes a e (flips s ps)
+  -- so flipping a listed pattern leaves remainder 0
+  pub listed-remainder : (ps : List ℕ) → In ps (packetList c limit s) → remainder c (flips s ps) ≡ 0
+  listed-remainder ps h =
+      let l = listed-iff (c .generator .degree) (c .generator .coefficients) (bits s) limit (remainder c s) ps .0 h in
+      remainder-syndrome ps (l .0)
+      ∙ ap (bitXor (remainder c s)) (l .2)
+      ∙ xor-self (remainder c s)
+
+  -- and passing the range is then passing both
+  pub listed-passes : (ps : List ℕ) → In ps (packetList c limit s) → passesBoth c k (flips s ps) ≡ passes k (flips s ps)
   unfolding passesBoth
   listed-passes ps h = simp (eq-eqb _ _ (listed-remainder ps h))
 
-  -- and the candidates are the listed sets that lead to a passing packet
-  pub candidates-leading : candidates g a e limit s ≡ leading g a e limit s
+  -- so the candidates are the listed sets that lead to a passing packet
+  pub candidates-leading : candidates c k limit s ≡ leading c k limit s
   unfolding candidates
-  candidates-leading = sift-same _ (λ ps. passesBoth g a e (flips s ps)) (packetList g limit s) (λ ps h. sym (listed-passes ps h))
-
-  pub candidate-leads : (ps : List ℕ) → In ps (candidates g a e limit s) ↔ Leads g a e limit s ps
-  candidate-leads ps = rw candidates-leading (in-leading g a e limit s ps)
+  candidates-leading = sift-same _ (λ ps. passesBoth c k (flips s ps)) (packetList c limit s) (λ ps h. sym (listed-passes ps h))
 
   -- ---- the verdict on a packet that does not pass ----
 
   module _ (named : List ℕ) where
-    says : passesBoth g a e s ≡ false → {xs : List (List ℕ)} → leading g a e limit s ≡ xs → verdict g a e limit s named ≡ settled xs named
-    says h d = unpassed named g a e limit s h ∙ ap (λ (xs : List (List ℕ)). settled xs named) (candidates-leading ∙ d)
+    says : passesBoth c k s ≡ false → {xs : List (List ℕ)} → leading c k limit s ≡ xs → verdict c k limit s named ≡ settled xs named
+    says h d = unpassed named c k limit s h ∙ ap (λ (xs : List (List ℕ)). settled xs named) (candidates-leading ∙ d)
 
-    said-of : (v : Said) → (v ≡ intact → ⊥) → verdict g a e limit s named ≡ v → (passesBoth g a e s ≡ false) × (settled (leading g a e limit s) named ≡ v)
-    said-of v other h = rw candidates-leading at (unless-intact named g a e limit s v other h)
+    said-of : (v : Said) → (v ≡ intact → ⊥) → verdict c k limit s named ≡ v → (passesBoth c k s ≡ false) × (settled (leading c k limit s) named ≡ v)
+    said-of v other h = rw candidates-leading at (unless-intact named c k limit s v other h)
 
     -- none exactly when no listed set leads to a passing packet
-    pub verdict-nothing : verdict g a e limit s named ≡ nothing ↔ ((passesBoth g a e s ≡ false) × ((ps : List ℕ) → Leads g a e limit s ps → ⊥))
+    pub verdict-nothing : verdict c k limit s named ≡ nothing ↔ ((passesBoth c k s ≡ false) × ((ps : List ℕ) → Leads c k limit s ps → ⊥))
     verdict-nothing = (
       λ h.
           let r = said-of nothing (λ k. let z : _≡_ {A = ℕ} 0 1 = cc in omega arith) h in
-          (r .0, λ ps l. in-nothing (rw (nothing-none named (leading g a e limit s) (r .1)) at (in-leading g a e limit s ps .1 l))),
-      λ h. says (h .0) (no-member (leading g a e limit s) (λ ps i. h .1 ps (in-leading g a e limit s ps .0 i))),
+          (r .0, λ ps l. in-nothing (rw (nothing-none named (leading c k limit s) (r .1)) at (in-leading c k limit s ps .1 l))),
+      λ h. says (h .0) (no-member (leading c k limit s) (λ ps i. h .1 ps (in-leading c k limit s ps .0 i))),
     )
 
     -- repaired exactly when just one does, and with that one
-    pub verdict-repaired : (p : List ℕ) → verdict g a e limit s named ≡ repaired p
-        ↔ ((passesBoth g a e s ≡ false) × Leads g a e limit s p × ((q : List ℕ) → Leads g a e limit s q → q ≡ p))
+    pub verdict-repaired : (p : List ℕ) → verdict c k limit s named ≡ repaired p
+        ↔ ((passesBoth c k s ≡ false) × Leads c k limit s p × ((q : List ℕ) → Leads c k limit s q → q ≡ p))
     verdict-repaired p = (
       λ h.
           let r = said-of (repaired p) (λ k. let z : _≡_ {A = ℕ} 0 1 = cc in omega arith) h in
-          let one = repaired-one named (leading g a e limit s) p (r .1) in
-          (r .0, in-leading g a e limit s p .0 (rw one (here refl)), λ q l. only-member (rw one at (in-leading g a e limit s q .1 l))),
+          let one = repaired-one named (leading c k limit s) p (r .1) in
+          (r .0, in-leading c k limit s p .0 (rw one (here refl)), λ q l. only-member (rw one at (in-leading c k limit s q .1 l))),
       λ h.
           says (h .0)
-          (only-one (leading-sorted g a e limit s) (in-leading g a e limit s p .1 (h .1)) (λ q i. h .2 q (in-leading g a e limit s q .0 i))),
+          (only-one (leading-sorted c k limit s) (in-leading c k limit s p .1 (h .1)) (λ q i. h .2 q (in-leading c k limit s q .0 i))),
     )
 
     -- several exactly when more than one does, with their number, and with the pattern that it names
-    pub verdict-several : (k : ℕ) (q : List ℕ) → verdict g a e limit s named ≡ several k q
-        ↔ ((passesBoth g a e s ≡ false) × (2 ≤ length (leading g a e limit s)) × (k ≡ length (leading g a e limit s)) × (q ≡ named))
-    verdict-several k q = (
+    pub verdict-several : (n : ℕ) (q : List ℕ) → verdict c k limit s named ≡ several n q
+        ↔ ((passesBoth c k s ≡ false) × (2 ≤ length (leading c k limit s)) × (n ≡ length (leading c k limit s)) × (q ≡ named))
+    verdict-several n q = (
       λ h.
-          let r = said-of (several k q) (λ j. let z : _≡_ {A = ℕ} 0 1 = cc in omega arith) h in
-          let m = several-more named (leading g a e limit s) k q (r .1) in
+          let r = said-of (several n q) (λ j. let z : _≡_ {A = ℕ} 0 1 = cc in omega arith) h in
+          let m = several-more named (leading c k limit s) n q (r .1) in
           (r .0, m .0, m .1, m .2),
-      λ h. says (h .0) refl ∙ more-several named (leading g a e limit s) (h .1) ∙ (let d = h .2 in let n = h .3 in cc),
+      λ h. says (h .0) refl ∙ more-several named (leading c k limit s) (h .1) ∙ (let d = h .2 in let e = h .3 in cc),
     )

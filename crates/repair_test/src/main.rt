@@ -5,39 +5,19 @@
 // limit of the calls, the packet's length and its bytes as testkit::read_packet takes them, the room for the output, a first
 // position, and how many from there on are flipped in turn, each alone, after a call with none. Generators, ranges and limits
 // are given by their high and low 32 bits.
+use checksum::Check;
 use libc::STDIN_FILENO;
 use packet::RemainderAnswer;
+use patterns::MOST_POSITIONS;
 use patterns::Pattern;
 use repair::RepairAnswer;
 use repair::Verdict;
-use testkit::Reading;
-ghost use Prim.Native.Nat.{_≤_};
 
 // What every call of a case is given.
 struct Setting {
     generator: u64,
-    from: usize,
-    to: usize,
+    check: Check,
     limit: usize,
-}
-
-// A number given by its high and low 32 bits.
-fn wide(text: &[u8], at: usize) -> Reading {
-    let high = testkit::number(text, at);
-    let low = testkit::number(text, high.next);
-    Reading {
-        value: high.value * 4294967296 + low.value,
-        next: low.next,
-    }
-}
-
-fn least(n: usize, most: usize) -> usize
-    ensures { λ r. ⌜ r ≤ most ⌝ }
-{
-    if n < most {
-        return n;
-    }
-    most
 }
 
 // Flips the bit at a position of the packet; another position changes nothing.
@@ -60,24 +40,6 @@ fn flip_each(packet: &mut [u8], pos: &[u16]) {
     }
 }
 
-fn wide_position(p: u16) -> u64 {
-    p as u64
-}
-
-fn print_positions(pos: &[u16]) {
-    let mut i = 0;
-    while i < pos.len() {
-        testkit::print_number(wide_position(pos[i]), b' ');
-        i += 1;
-    }
-}
-
-fn print_pattern(p: Pattern) {
-    let held = patterns::spread(p);
-    let n = least(patterns::count_of(p), 4);
-    print_positions(&held[..n]);
-}
-
 fn print_remainder(generator: u64, packet: &[u8]) {
     match packet::remainder(generator, packet) {
         RemainderAnswer::Remainder(r) => testkit::print_number(r, b' '),
@@ -85,7 +47,9 @@ fn print_remainder(generator: u64, packet: &[u8]) {
     }
 }
 
-fn print_sum(from: usize, to: usize, packet: &[u8]) {
+fn print_sum(check: Check, packet: &[u8]) {
+    let from = check.from;
+    let to = check.to;
     if from <= to {
         if to <= packet.len() {
             testkit::print_number(checksum::sum(&packet[from..to]) as u64, b' ');
@@ -96,10 +60,10 @@ fn print_sum(from: usize, to: usize, packet: &[u8]) {
 // The remainder and the sum with the pattern's bits flipped; the packet is then as it was.
 fn print_checks(set: Setting, p: Pattern, packet: &mut [u8]) {
     let held = patterns::spread(p);
-    let n = least(patterns::count_of(p), 4);
+    let n = testkit::least(patterns::count_of(p), MOST_POSITIONS);
     flip_each(packet, &held[..n]);
     print_remainder(set.generator, packet);
-    print_sum(set.from, set.to, packet);
+    print_sum(set.check, packet);
     flip_each(packet, &held[..n]);
 }
 
@@ -109,7 +73,7 @@ fn print_verdict(set: Setting, verdict: Verdict, packet: &mut [u8]) {
         Verdict::Intact => testkit::print(b"intact "),
         Verdict::Repaired(p) => {
             testkit::print(b"repaired ");
-            print_pattern(p);
+            testkit::print_pattern(p);
         }
         Verdict::Several(k, p) => {
             testkit::print(b"several ");
@@ -137,8 +101,7 @@ fn ask(set: Setting, steps: &[u16], firsts: &[u16], packet: &mut [u8], out: &mut
     testkit::fill(out, 1);
     let answer = repair::repair(
         set.generator,
-        set.from,
-        set.to,
+        set.check,
         set.limit,
         steps,
         firsts,
@@ -150,7 +113,7 @@ fn ask(set: Setting, steps: &[u16], firsts: &[u16], packet: &mut [u8], out: &mut
             testkit::print_refused(r, b' ');
             testkit::print_number(testkit::hash(out), b'\n');
         }
-        RepairAnswer::Told(verdict) => print_told(set, verdict, packet, out),
+        RepairAnswer::Decided(verdict) => print_told(set, verdict, packet, out),
     }
 }
 
@@ -209,15 +172,15 @@ fn calls(
 
 // One case from `at` on; the answer is the place behind it.
 fn case(text: &[u8], at: usize, steps: &[u16], firsts: &[u16]) -> usize {
-    let generator = wide(text, at);
-    let from = wide(text, generator.next);
-    let to = wide(text, from.next);
-    let limit = wide(text, to.next);
+    let generator = testkit::wide(text, at);
+    let from = testkit::wide(text, generator.next);
+    let to = testkit::wide(text, from.next);
+    let limit = testkit::wide(text, to.next);
     let len = testkit::number(text, limit.next);
+    let check = checksum::check_of(from.value as usize, to.value as usize);
     let set = Setting {
         generator: generator.value,
-        from: from.value as usize,
-        to: to.value as usize,
+        check,
         limit: limit.value as usize,
     };
     let mut space = [0u8; 1024];
@@ -236,58 +199,20 @@ fn cases(text: &[u8], at: usize, count: u64, steps: &[u16], firsts: &[u16]) -> u
     next
 }
 
-fn change(table: &mut [u16], at: usize, by: u16) {
-    if at < table.len() {
-        table[at] = table[at] ^ by;
-    }
-}
-
-// The tables of a generator, in so many entries of both slices.
-fn build(generator: u64, size: usize, steps: &mut [u16], firsts: &mut [u16]) {
-    if steps.len() < size {
-        return;
-    }
-    if firsts.len() < size {
-        return;
-    }
-    tables::tables(generator, &mut steps[..size], &mut firsts[..size]);
-}
-
-fn prepare(text: &[u8], at: usize, steps: &mut [u16], firsts: &mut [u16]) -> usize {
-    let generator = wide(text, at);
-    let size = testkit::number(text, generator.next);
-    build(generator.value, size.value as usize, steps, firsts);
-    size.next
-}
-
-// One entry of a table changed.
-fn spoil(text: &[u8], at: usize, steps: &mut [u16], firsts: &mut [u16]) -> usize {
-    let which = testkit::number(text, at);
-    let place = testkit::number(text, which.next);
-    let by = testkit::number(text, place.next);
-    if which.value == 0 {
-        change(steps, place.value as usize, (by.value % 65536) as u16);
-        return by.next;
-    }
-    change(firsts, place.value as usize, (by.value % 65536) as u16);
-    by.next
-}
-
 // The cases of a group, with so many entries of each table.
 fn lend(text: &[u8], at: usize, steps: &[u16], firsts: &[u16]) -> usize {
     let s = testkit::number(text, at);
     let f = testkit::number(text, s.next);
     let count = testkit::number(text, f.next);
-    let n = least(s.value as usize, steps.len());
-    let m = least(f.value as usize, firsts.len());
+    let n = testkit::least(s.value as usize, steps.len());
+    let m = testkit::least(f.value as usize, firsts.len());
     cases(text, count.next, count.value, &steps[..n], &firsts[..m])
 }
 
 // One group from `at` on; the answer is the place behind it.
 fn group(text: &[u8], at: usize, steps: &mut [u16], firsts: &mut [u16]) -> usize {
-    let made = prepare(text, at, steps, firsts);
-    let spoilt = spoil(text, made, steps, firsts);
-    lend(text, spoilt, steps, firsts)
+    let next = testkit::prepare(text, at, steps, firsts);
+    lend(text, next, steps, firsts)
 }
 
 fn groups(text: &[u8], steps: &mut [u16], firsts: &mut [u16]) {

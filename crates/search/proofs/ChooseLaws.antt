@@ -7,7 +7,8 @@ use native.Mathlib.Omega.{arith}
 use lib.ListN.{length}
 use Rattle.base.specs.Lists.{In}
 use Rattle.patterns.specs.Order.{lower}
-use Rattle.patterns.specs.Listing.{Ascending, none, next, choose, sift}
+use Rattle.base.specs.Lists.{Ascending, ends, next}
+use Rattle.patterns.specs.Listing.{choose, sift}
 use Rattle.patterns.proofs.OrderLaws.{lower-less, lower-more, lower-same}
 use Rattle.patterns.proofs.MemberLaws.{map-in}
 use Rattle.patterns.proofs.SiftLaws.{sift-append, sift-map, sift-all, sift-none, sift-same}
@@ -35,7 +36,7 @@ choose-later : (p : ℕ) (ps : List ℕ) (room k from : ℕ) → p < from → (q
 choose-later p ps room k from h q i = let a = choose-in room (suc k) from (from + room) refl q i in starts (a .0) (a .1)
   where
     starts : {l : ℕ} {q : List ℕ} → Ascending l from q → length q ≡ suc k → lower (p ∷ ps) q ≡ true
-    starts none e = absurd (omega arith)
+    starts ends e = absurd (omega arith)
     starts (next {p = b} {ps = bs} g _ _) e = lower-less p b ps bs (omega arith)
 
 -- what comes after a set p ∷ ps: those that start with p too and go on with what comes after ps, and those that start past p

@@ -13,19 +13,20 @@ use borrow.Author.Tests.{eq-eqb, ne-eqb, eqb-true, eqb-false}
 use Rattle.base.proofs.Cases.{by-test}
 use Rattle.base.proofs.XorLaws.{xor-ac, xor-cancel}
 use Rattle.patterns.specs.Order.{lower}
-use Rattle.patterns.specs.Listing.{Ascending, next, choose, sift}
+use Rattle.base.specs.Lists.{Ascending, next}
+use Rattle.patterns.specs.Listing.{choose, sift}
 use Rattle.patterns.proofs.SiftLaws.{sift-append, sift-map, sift-none, sift-same, sift-comm}
-use Rattle.search.specs.Search.{xorAll, summing, Head, nothing, leads, headOf, firstOf, firstAfter, answer}
+use Rattle.search.specs.Search.{xorAll, summing, Head, headless, starts, headOf, firstOf, firstAfter, answer}
 use Rattle.search.proofs.ChooseLaws.{choose-zero, choose-past, choose-step, choose-after}
 
 -- the first of two, and one with a position in front
 abbrev pub orElse : Head → Head → Head
-orElse nothing y = y
-orElse (leads p) y = leads p
+orElse headless y = y
+orElse (starts p) y = starts p
 
 abbrev pub onto : ℕ → Head → Head
-onto p nothing = nothing
-onto p (leads ps) = leads (p ∷ ps)
+onto p headless = headless
+onto p (starts ps) = starts (p ∷ ps)
 
 pub head-append : (xs ys : List (List ℕ)) → headOf (xs ++ ys) ≡ orElse (headOf xs) (headOf ys)
 unfolding headOf
@@ -37,7 +38,7 @@ unfolding headOf
 head-map p [] = refl
 head-map p (x ∷ xs) = refl
 
-pub head-nil : headOf [] ≡ nothing
+pub head-nil : headOf [] ≡ headless
 unfolding headOf
 head-nil = refl
 
@@ -93,7 +94,7 @@ module _ (power : ℕ → ℕ) where
   firstOf-empty l from u [] h = firstOf-zero l from u
   firstOf-empty l from u (x ∷ xs) h = absurd (omega arith)
 
-  pub firstOf-past : (l k from u : ℕ) → l ≤ from → firstOf power l (suc k) from u ≡ nothing
+  pub firstOf-past : (l k from u : ℕ) → l ≤ from → firstOf power l (suc k) from u ≡ headless
   unfolding firstOf
   firstOf-past l k from u h = ap (λ (x : List (List ℕ)). headOf (summing power u x)) (choose-past l k from h) ∙ ap headOf (summing-nil u) ∙ head-nil
 
@@ -119,7 +120,7 @@ module _ (power : ℕ → ℕ) where
       ∙ sym (ap (λ (r : ℕ). sift (lower (p ∷ ps)) (choose r (suc (length ps)) zero)) (sym (sub-zero l)) ∙ choose-after l (length ps) p ps p zero (omega arith) b)
 
   -- nothing comes after the empty set among those of no positions
-  pub firstAfter-empty : (l u : ℕ) (xs : List ℕ) → length xs ≡ 0 → firstAfter power l xs u ≡ nothing
+  pub firstAfter-empty : (l u : ℕ) (xs : List ℕ) → length xs ≡ 0 → firstAfter power l xs u ≡ headless
   unfolding firstAfter lower
   firstAfter-empty l u (x ∷ xs) h = absurd (omega arith)
   firstAfter-empty l u [] h = ap headOf (sift-none (lower []) (summing power u (choose l zero zero)) (λ q i. refl)) ∙ head-nil

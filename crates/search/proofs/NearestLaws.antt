@@ -6,13 +6,13 @@ use mathlib.Core.List.{List, [], _∷_}
 use Prim.Native.Nat.{ℕ, zero, suc, _+_, _-_, _*_, _/_, _<_, _≤_}
 use native.Mathlib.Omega.{arith}
 use native.Mathlib.Nat.{mod-lt, div-add-mod', mul-le-mul-right, suc-mul}
-use lib.Bits.{bitXor, xor-self}
+use lib.Bits.{bitXor, xor-self, xor-lt}
 use lib.Dec.{eqb, ltb}
 use lib.ListN.{length, getD, set}
 use borrow.Author.Tests.{lt-ltb, le-ltb, eq-eqb, ne-eqb, eqb-true, eqb-false}
 use Rattle.base.proofs.Cases.{by-test, by-order}
 use Rattle.base.proofs.XorLaws.{xor-zero-equal}
-use Rattle.search.specs.Search.{Head, firstOf, answer, Nearest, Lookup, Ready}
+use Rattle.search.specs.Search.{Head, firstOf, answer, Nearest, Firsts, Lookup, Ready}
 use Rattle.search.proofs.HeadLaws.{orElse, onto, firstOf-zero, firstOf-past, firstOf-step}
 
 -- the least multiple of c that is at least d
@@ -26,7 +26,7 @@ multiple-below j k c d h l =
     (λ m. let e = mul-le-mul-right c m in omega (arith, suc-mul j c))
     (λ m. let e = mul-le-mul-right c m in absurd (omega arith))
 
-module _ {power : ℕ → ℕ} {pow first : List ℕ} {period : ℕ} (t : Lookup power pow first period) where
+module _ {power : ℕ → ℕ} {first : List ℕ} {period : ℕ} (t : Firsts power first period) where
   again-many : (p k : ℕ) → power (p + k * period) ≡ power p
   again-many p zero = ap power (omega arith)
   again-many p (suc k) =
@@ -112,14 +112,14 @@ module _ (power : ℕ → ℕ) where
                 (by-order lo p (λ c. omega arith) (λ c. let e : lo ≡ p = omega (arith, m .0) in absurd (miss (ap power e ∙ m .1))), m .1);
           }
 
--- one position placed: the search goes on behind it, and past it
-pub ready-next : {pow first : List ℕ} {period lo u : ℕ} → Ready pow first period lo u → (a : ℕ) → a < length pow
-    → Ready pow first period (a + 1) (bitXor u (getD pow a 0))
-ready-next {pow} {first} {period} {lo} {u} r a h =
-    record { shape = r .shape; start = omega arith; sum = r .shape .closed u (getD pow a 0) (r .sum) (r .shape .inside a h) }
+-- one position placed: the search goes on behind it, from any place on, and past it
+pub ready-next : {pow first : List ℕ} {period lo u : ℕ} → Ready pow first period lo u → (a : ℕ) → a < length pow → {from : ℕ} → from ≤ length pow
+    → Ready pow first period from (bitXor u (getD pow a 0))
+ready-next {pow} {first} {period} {lo} {u} r a h k =
+    record { n = r .n; shape = r .shape; index = r .index; start = k; sum = xor-lt (r .n) u (getD pow a 0) (r .sum) (r .shape .inside a h) }
 
-pub ready-at : {pow first : List ℕ} {period lo u : ℕ} → Ready pow first period lo u → (a : ℕ) → a ≤ length pow → Ready pow first period a u
-ready-at r a h = record { shape = r .shape; start = h; sum = r .sum }
+pub ready-at : {pow first : List ℕ} {period lo u : ℕ} → Ready pow first period lo u → {from : ℕ} → from ≤ length pow → Ready pow first period from u
+ready-at r h = record { n = r .n; shape = r .shape; index = r .index; start = h; sum = r .sum }
 
 module _ {power : ℕ → ℕ} {pow first : List ℕ} {period : ℕ} (t : Lookup power pow first period) where
   pub place-turn : (k a u : ℕ) → a < length pow
@@ -131,12 +131,12 @@ module _ {power : ℕ → ℕ} {pow first : List ℕ} {period : ℕ} (t : Lookup
       (sym (t .known a h))
 
   -- with the last one looked up
-  pub pair-turn : (a u b : ℕ) → a < length pow → Nearest power (length pow) (a + 1) (bitXor u (getD pow a 0)) b
+  pub pair-turn : (a u b : ℕ) → a < length pow → {from : ℕ} → from ≡ a + 1 → Nearest power (length pow) from (bitXor u (getD pow a 0)) b
       → firstOf power (length pow) 2 a u ≡ orElse (onto a (answer (ltb b (length pow)) (b ∷ []))) (firstOf power (length pow) 2 (a + 1) u)
-  pair-turn a u b h n =
+  pair-turn a u b h e n =
       place-turn 1 a u h
       ∙ ap (λ (x : Head). orElse (onto a x) (firstOf power (length pow) 2 (a + 1) u))
-      (nearest-first power (length pow) (bitXor u (getD pow a 0)) b (length pow - (a + 1)) (a + 1) (omega arith) n)
+      (nearest-first power (length pow) (bitXor u (getD pow a 0)) b (length pow - (a + 1)) (a + 1) (omega arith) (rw e at n))
 
 -- what the stores leave in a slice of one and of two
 pub set-one : (xs : List ℕ) (a : ℕ) → length xs ≡ 1 → set xs 0 a ≡ a ∷ []

@@ -11,12 +11,13 @@ use lib.Seq.{length-take-le, take-at}
 use Rattle.base.specs.Lists.{In, here}
 use Rattle.patterns.specs.Order.{lower, before}
 use Rattle.patterns.specs.StrictOrder.{Sorted}
-use Rattle.patterns.specs.Listing.{Ascending, choose, upTo, sift}
+use Rattle.base.specs.Lists.{Ascending}
+use Rattle.patterns.specs.Listing.{choose, upTo, sift}
 use Rattle.patterns.proofs.OrderLaws.{before-strict-total, fewer-before, level-before}
 use Rattle.patterns.proofs.SiftLaws.{sift-append, sift-all, sift-none, sift-same, sift-in}
 use Rattle.patterns.proofs.SortedLaws.{not-back, sorted-behind, sorted-next}
 use Rattle.patterns.proofs.ListingLaws.{choose-in, upTo-in, sifted-in, sifted-sorted}
-use Rattle.search.specs.Search.{xorAll, summing, listed, Head, nothing, leads, headOf, rising, firstOf, firstAfter, answer, Leads}
+use Rattle.search.specs.Search.{xorAll, summing, listed, Head, headless, starts, headOf, rising, firstOf, firstAfter, answer, FoundFirst}
 use Rattle.search.proofs.HeadLaws.{orElse, head-append, head-nil, summing-append, summing-sift, summing-nil, firstOf-whole}
 
 pub rising-none : (l k : ℕ) → rising l k zero ≡ []
@@ -89,12 +90,12 @@ after-split p l (suc n) (suc m) e =
     ∙ ap (λ (x : List (List ℕ)). sift (lower p) (choose l (length p) zero) ++ x) (sym (rising-snoc l (suc (length p)) m))
 
 -- what has a first is that and the rest
-head-cons : (xs : List (List ℕ)) (q : List ℕ) → headOf xs ≡ leads q → (rest : List (List ℕ)) × (xs ≡ q ∷ rest)
+head-cons : (xs : List (List ℕ)) (q : List ℕ) → headOf xs ≡ starts q → (rest : List (List ℕ)) × (xs ≡ q ∷ rest)
 unfolding headOf
 head-cons [] q h = absurd (let z : _≡_ {A = ℕ} 0 1 = cc in omega arith)
 head-cons (x ∷ xs) q h = (xs, cc)
 
-pub head-none : (xs : List (List ℕ)) → headOf xs ≡ nothing → xs ≡ []
+pub head-none : (xs : List (List ℕ)) → headOf xs ≡ headless → xs ≡ []
 unfolding headOf
 head-none [] h = refl
 head-none (x ∷ xs) h = absurd (let z : _≡_ {A = ℕ} 0 1 = cc in omega arith)
@@ -108,15 +109,15 @@ module _ (power : ℕ → ℕ) (l n s : ℕ) where
   unfolding listed summing
   listed-ascends h = sifted-in (λ ps. eqb (xorAll power ps) s) l n h .0
 
-  pub first-leads : (q : List ℕ) → headOf (listed power l n s) ≡ leads q → Leads l (listed power l n s) (listed power l n s) q
-  first-leads q h =
+  pub first-starts : (q : List ℕ) → headOf (listed power l n s) ≡ starts q → FoundFirst l (listed power l n s) (listed power l n s) q
+  first-starts q h =
       let r = head-cons (listed power l n s) q h in
       let behind = ap (sift (before q)) (r .1) ∙ sorted-behind before-strict-total [] q (r .0) (rw (r .1) at listed-sorted) in
       record { split = r .1 ∙ ap (λ (ys : List (List ℕ)). q ∷ ys) (sym behind); ascends = listed-ascends (rw (r .1) (here refl)) }
 
-  pub next-leads : (p q : List ℕ) → headOf (sift (before p) (listed power l n s)) ≡ leads q
-      → Leads l (listed power l n s) (sift (before p) (listed power l n s)) q
-  next-leads p q h =
+  pub next-starts : (p q : List ℕ) → headOf (sift (before p) (listed power l n s)) ≡ starts q
+      → FoundFirst l (listed power l n s) (sift (before p) (listed power l n s)) q
+  next-starts p q h =
       let r = head-cons (sift (before p) (listed power l n s)) q h in
       let behind = sorted-next before-strict-total (before p) (before-strict-total .transitive p) listed-sorted q (r .0) (r .1) in
       record {
@@ -150,7 +151,7 @@ module _ (power : ℕ → ℕ) (l n s : ℕ) where
       ∙ head-append (summing power s (choose l k zero)) (summing power s (rising l (suc k) m))
       ∙ ap (λ (h : Head). orElse h (headOf (summing power s (rising l (suc k) m)))) (sym (firstOf-whole power l k s))
 
-  pub rise-none : (k : ℕ) → headOf (summing power s (rising l k zero)) ≡ nothing
+  pub rise-none : (k : ℕ) → headOf (summing power s (rising l k zero)) ≡ headless
   rise-none k = ap (λ (xs : List (List ℕ)). headOf (summing power s xs)) (rising-none l k) ∙ ap headOf (summing-nil power s) ∙ head-nil
 
 -- one count tried, in a slice xs of n positions whose first k the level below was lent
@@ -167,8 +168,8 @@ module _ (power : ℕ → ℕ) (l s n k : ℕ) (xs ys : List ℕ) (r : Bool) (ro
       (ap (λ (m : ℕ). firstOf power l m 0 s) (sym (length-take-le k xs (omega arith))) ∙ sym told)
       (ap₂ (λ (a b : ℕ). headOf (summing power s (rising l a b))) g f)
 
-  pub rise-hit : r ≡ true → leads (take k (ys ++ drop k xs)) ≡ headOf (summing power s (rising l k (n + 1 - k)))
-  rise-hit e = ap leads (take-at ys (drop k xs) k (same ∙ length-take-le k xs (omega arith))) ∙ sym (rise-turn ∙ rw e)
+  pub rise-hit : r ≡ true → starts (take k (ys ++ drop k xs)) ≡ headOf (summing power s (rising l k (n + 1 - k)))
+  rise-hit e = ap starts (take-at ys (drop k xs) k (same ∙ length-take-le k xs (omega arith))) ∙ sym (rise-turn ∙ rw e)
 
   pub rise-miss : r ≡ false → headOf (summing power s (rising l k (n + 1 - k))) ≡ headOf (summing power s (rising l (k + 1) (n + 1 - (k + 1))))
   rise-miss e = rise-turn ∙ rw e

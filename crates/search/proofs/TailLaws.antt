@@ -9,9 +9,9 @@ use lib.Dec.{ltb}
 use lib.ListN.{length, getD, take, drop, set}
 use lib.Seq.{drop-length, take-length}
 use borrow.Rule.Slice.PartMut.{midOf, putMid, mid-len}
-use Rattle.patterns.specs.Listing.{Ascending, none as ends, next}
-use Rattle.patterns.proofs.ListingLaws.{ascending-from}
-use Rattle.search.specs.Search.{Head, leads, firstOf, firstAfter, answer, Lookup, Nearest}
+use Rattle.base.specs.Lists.{Ascending, ends, next}
+use Rattle.base.proofs.ListLaws.{ascending-from}
+use Rattle.search.specs.Search.{Head, starts, firstOf, firstAfter, answer, Lookup, Nearest}
 use Rattle.search.proofs.HeadLaws.{orElse, onto, firstAfter-cons, firstAfter-empty}
 use Rattle.search.proofs.NearestLaws.{place-turn, nearest-first}
 
@@ -40,8 +40,8 @@ tail-ascends ends h = absurd (omega arith)
 tail-ascends (next {p = p} {ps = ps} a b c) h = rw (tail-of p ps) (ascending-from 0 (omega arith) c)
 
 module _ {power : ℕ → ℕ} {pow first : List ℕ} {period : ℕ} (t : Lookup power pow first period) (a u n : ℕ) (xs ys : List ℕ) (r : Bool)
-    (room : 1 ≤ n) (same : length xs ≡ n) (h : a < length pow)
-    (told : answer r ys ≡ firstOf power (length pow) (length (midOf 1 (length xs - 1) xs)) (a + 1) (bitXor u (getD pow a 0))) where
+    (room : 1 ≤ n) (same : length xs ≡ n) (h : a < length pow) (from : ℕ) (behind : from ≡ a + 1)
+    (told : answer r ys ≡ firstOf power (length pow) (length (midOf 1 (length xs - 1) xs)) from (bitXor u (getD pow a 0))) where
   turn : firstOf power (length pow) n a u ≡ orElse (onto a (answer r ys)) (firstOf power (length pow) n (a + 1) u)
   turn =
       let e : n ≡ suc (n - 1) = omega arith in
@@ -49,12 +49,12 @@ module _ {power : ℕ → ℕ} {pow first : List ℕ} {period : ℕ} (t : Lookup
       ap (λ (k : ℕ). firstOf power (length pow) k a u) e
       ∙ place-turn t (n - 1) a u h
       ∙ ap₂ (λ (x : Head) (k : ℕ). orElse (onto a x) (firstOf power (length pow) k (a + 1) u))
-      (sym (told ∙ ap (λ (k : ℕ). firstOf power (length pow) k (a + 1) (bitXor u (getD pow a 0))) f))
+      (sym (told ∙ ap₂ (λ (k i : ℕ). firstOf power (length pow) k i (bitXor u (getD pow a 0))) f behind))
       (sym e)
 
   -- the tail was placed: so is the whole
-  pub place-hit : r ≡ true → leads (set (putMid 1 (length xs - 1) xs ys) 0 a) ≡ firstOf power (length pow) n a u
-  place-hit e = ap (λ (l : List ℕ). leads (set l 0 a)) (tail-back xs ys (omega arith)) ∙ sym (turn ∙ rw e)
+  pub place-hit : r ≡ true → starts (set (putMid 1 (length xs - 1) xs ys) 0 a) ≡ firstOf power (length pow) n a u
+  place-hit e = ap (λ (l : List ℕ). starts (set l 0 a)) (tail-back xs ys (omega arith)) ∙ sym (turn ∙ rw e)
 
   -- it was not: no set starts here
   pub place-miss : r ≡ false → firstOf power (length pow) n a u ≡ firstOf power (length pow) n (a + 1) u
@@ -81,8 +81,8 @@ module _ {power : ℕ → ℕ} {pow first : List ℕ} {period : ℕ} (t : Lookup
       resume-turn t u xs asc room
       ∙ ap (λ (x : Head). orElse (onto (getD xs 0 0) x) (firstOf power (length pow) (length xs) (getD xs 0 0 + 1) u)) (sym told)
 
-  pub resume-hit : r ≡ true → leads (putMid 1 (length xs - 1) xs ys) ≡ firstAfter power (length pow) xs u
-  resume-hit e = ap leads (tail-back xs ys room) ∙ sym (after ∙ rw e)
+  pub resume-hit : r ≡ true → starts (putMid 1 (length xs - 1) xs ys) ≡ firstAfter power (length pow) xs u
+  resume-hit e = ap starts (tail-back xs ys room) ∙ sym (after ∙ rw e)
 
   pub resume-miss : r ≡ false → firstOf power (length pow) (length (putMid 1 (length xs - 1) xs ys)) (getD xs 0 0 + 1) u ≡ firstAfter power (length pow) xs u
   resume-miss e =
@@ -90,13 +90,14 @@ module _ {power : ℕ → ℕ} {pow first : List ℕ} {period : ℕ} (t : Lookup
 
 -- after a set of two: the nearest past its last position decides of those that start as it does
 pub pair-after : {power : ℕ → ℕ} {pow first : List ℕ} {period : ℕ} (t : Lookup power pow first period) (u b : ℕ) (xs : List ℕ)
-    → length xs ≡ 2 → Ascending (length pow) 0 xs → Nearest power (length pow) (getD xs 1 0 + 1) (bitXor u (getD pow (getD xs 0 0) 0)) b
+    → length xs ≡ 2 → Ascending (length pow) 0 xs → {from : ℕ} → from ≡ getD xs 1 0 + 1
+    → Nearest power (length pow) from (bitXor u (getD pow (getD xs 0 0) 0)) b
     → firstAfter power (length pow) xs u
     ≡ orElse (onto (getD xs 0 0) (answer (ltb b (length pow)) (b ∷ []))) (firstOf power (length pow) 2 (getD xs 0 0 + 1) u)
-pair-after t u b [] e asc n = absurd (omega arith)
-pair-after t u b (p ∷ []) e asc n = absurd (omega arith)
-pair-after t u b (p ∷ q ∷ x ∷ xs) e asc n = absurd (omega arith)
-pair-after {power} {pow} t u b (p ∷ q ∷ []) e asc n =
+pair-after t u b [] e asc f n = absurd (omega arith)
+pair-after t u b (p ∷ []) e asc f n = absurd (omega arith)
+pair-after t u b (p ∷ q ∷ x ∷ xs) e asc f n = absurd (omega arith)
+pair-after {power} {pow} t u b (p ∷ q ∷ []) e asc f n =
     let l = length pow in
     let v = bitXor u (getD pow p 0) in
     let tail = tail-ascends asc (omega arith) in
@@ -105,7 +106,7 @@ pair-after {power} {pow} t u b (p ∷ q ∷ []) e asc n =
     ∙ ap (λ (x : Head). orElse (onto p x) (firstOf power l 2 (p + 1) u))
     (resume-turn t v (q ∷ []) tail (omega arith)
     ∙ ap (λ (x : Head). orElse (onto q x) (firstOf power l 1 (q + 1) v)) (firstAfter-empty power l (bitXor v (getD pow q 0)) [] refl)
-    ∙ nearest-first power l v b (l - (q + 1)) (q + 1) (omega arith) n)
+    ∙ nearest-first power l v b (l - (q + 1)) (q + 1) (omega arith) (rw f at n))
 
 pub second-below : {l : ℕ} {xs : List ℕ} → Ascending l 0 xs → length xs ≡ 2 → getD xs 1 0 < l
 second-below ends h = absurd (omega arith)

@@ -8,27 +8,27 @@ use lib.ListN.{length, take, drop}
 use lib.Seq.{length-take-le, take-at}
 use Rattle.patterns.specs.Order.{before}
 use Rattle.patterns.specs.Listing.{sift}
-use Rattle.search.specs.Search.{summing, listed, leads, headOf, firstAfter, rising, answer, found, Counted, Told}
+use Rattle.search.specs.Search.{summing, listed, starts, headOf, firstAfter, rising, answer, found, CountWithin, Told}
 use Rattle.search.specs.declared.Found.{Found}
 use Rattle.search.specs.declared.Found.the-variants.{At, Nothing}
 use Rattle.search.proofs.HeadLaws.{orElse}
-use Rattle.search.proofs.RisingLaws.{head-none, first-leads, next-leads, listed-rising, after-rising}
+use Rattle.search.proofs.RisingLaws.{head-none, first-starts, next-starts, listed-rising, after-rising}
 
 module _ (power : ℕ → ℕ) (l n s : ℕ) where
-  pub told-first : (r : Found) (pos : List ℕ) → Counted n r → found r pos ≡ headOf (summing power s (rising l 0 (n + 1 - 0)))
+  pub told-first : (r : Found) (pos : List ℕ) → CountWithin n r → found r pos ≡ headOf (summing power s (rising l 0 (n + 1 - 0)))
       → Told l n (listed power l n s) (listed power l n s) r pos
   told-first r pos b h = go r b (h ∙ ap (λ (m : ℕ). headOf (summing power s (rising l 0 m))) (counts n) ∙ sym (listed-rising power l n s))
     where
       counts : (n : ℕ) → n + 1 - 0 ≡ suc n
       counts n = omega arith
 
-      go : (r : Found) → Counted n r → found r pos ≡ headOf (listed power l n s) → Told l n (listed power l n s) (listed power l n s) r pos
-      go (At k) b h = (first-leads power l n s (take k pos) (sym h), b)
+      go : (r : Found) → CountWithin n r → found r pos ≡ headOf (listed power l n s) → Told l n (listed power l n s) (listed power l n s) r pos
+      go (At k) b h = (first-starts power l n s (take k pos) (sym h), b)
       go Nothing b h = head-none (listed power l n s) (sym h)
 
-  pub told-next : (p : List ℕ) (r : Found) (pos : List ℕ) → Counted n r → found r pos ≡ headOf (sift (before p) (listed power l n s))
+  pub told-next : (p : List ℕ) (r : Found) (pos : List ℕ) → CountWithin n r → found r pos ≡ headOf (sift (before p) (listed power l n s))
       → Told l n (listed power l n s) (sift (before p) (listed power l n s)) r pos
-  told-next p (At k) pos b h = (next-leads power l n s p (take k pos) (sym h), b)
+  told-next p (At k) pos b h = (next-starts power l n s p (take k pos) (sym h), b)
   told-next p Nothing pos b h = head-none (sift (before p) (listed power l n s)) (sym h)
 
   -- after the first k of xs: more of that count, or the first of the counts above it
@@ -45,11 +45,11 @@ module _ (power : ℕ → ℕ) (l n s : ℕ) where
     pub next-same : r ≡ true → Told l n (listed power l n s) (sift (before (take k xs)) (listed power l n s)) (At k) (ys ++ drop k xs)
     next-same e =
         told-next (take k xs) (At k) (ys ++ drop k xs) room
-        (ap leads (take-at ys (drop k xs) k (same ∙ length-take-le k xs (omega arith))) ∙ sym (ahead ∙ rw e))
+        (ap starts (take-at ys (drop k xs) k (same ∙ length-take-le k xs (omega arith))) ∙ sym (ahead ∙ rw e))
 
-    pub next-above : r ≡ false → (q : Found) (pos zs : List ℕ) → length zs ≡ n → Counted (length zs) q
-        → found q pos ≡ headOf (summing power s (rising l (k + 1) (length zs + 1 - (k + 1))))
+    pub next-above : r ≡ false → (q : Found) (pos zs : List ℕ) → length zs ≡ n → (above : ℕ) → above ≡ k + 1 → CountWithin (length zs) q
+        → found q pos ≡ headOf (summing power s (rising l above (length zs + 1 - above)))
         → Told l n (listed power l n s) (sift (before (take k xs)) (listed power l n s)) q pos
-    next-above e q pos zs w b h =
+    next-above e q pos zs w above f b h =
         told-next (take k xs) q pos (rw w at b)
-        (h ∙ ap (λ (m : ℕ). headOf (summing power s (rising l (k + 1) (m + 1 - (k + 1))))) w ∙ sym (ahead ∙ rw e))
+        (h ∙ ap₂ (λ (m i : ℕ). headOf (summing power s (rising l i (m + 1 - i)))) w f ∙ sym (ahead ∙ rw e))

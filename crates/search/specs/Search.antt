@@ -1,14 +1,15 @@
 -- What a search goes through and what it answers, over any powers: the sets of positions whose powers have a given
 -- sum, and the first of them.
-use Prim.Native.Nat.{ℕ, zero, suc, _+_, _-_, _*_, _≤_, _<_}
+use Prim.Native.Nat.{ℕ, zero, suc, _+_, _-_, _*_, _^_, _≤_, _<_}
 use mathlib.Core.Path.{_≡_}
 use mathlib.Core.Bool.{Bool, true, false}
 use mathlib.Core.List.{List, [], _∷_, _++_}
 use lib.Bits.{bitXor}
 use lib.Dec.{eqb}
 use lib.ListN.{length, getD, take}
+use Rattle.base.specs.Lists.{Ascending}
 use Rattle.patterns.specs.Order.{lower, before}
-use Rattle.patterns.specs.Listing.{Ascending, choose, upTo, sift}
+use Rattle.patterns.specs.Listing.{choose, upTo, sift}
 use Rattle.search.specs.declared.Found.{Found}
 use Rattle.search.specs.declared.Found.the-variants.{At, Nothing}
 
@@ -27,12 +28,12 @@ listed power l limit s = summing power s (upTo l limit)
 
 -- the first of a list of sets, if it has one
 pub data Head : Type 0 where
-  nothing : Head
-  leads : List ℕ → Head
+  headless : Head
+  starts : List ℕ → Head
 
 unfoldable pub headOf : List (List ℕ) → Head
-headOf [] = nothing
-headOf (p ∷ ps) = leads p
+headOf [] = headless
+headOf (p ∷ ps) = starts p
 
 -- the first set of k positions from `from` on and below l whose powers have the sum u
 unfoldable pub firstOf : (ℕ → ℕ) → ℕ → ℕ → ℕ → ℕ → Head
@@ -49,44 +50,53 @@ rising l k (suc m) = choose l k zero ++ rising l (suc k) m
 
 -- an answer of yes or no, with the positions left behind
 abbrev pub answer : Bool → List ℕ → Head
-answer true ps = leads ps
-answer false ps = nothing
+answer true ps = starts ps
+answer false ps = headless
 
 -- a count found, of the positions left behind
 abbrev pub found : Found → List ℕ → Head
-found (At k) pos = leads (take k pos)
-found Nothing pos = nothing
+found (At k) pos = starts (take k pos)
+found Nothing pos = headless
 
 -- a count found is at most so many
-abbrev pub Counted : ℕ → Found → Type 0
-Counted limit (At k) = k ≤ limit
-Counted limit Nothing = Unit {0}
+abbrev pub CountWithin : ℕ → Found → Type 0
+CountWithin limit (At k) = k ≤ limit
+CountWithin limit Nothing = Unit {0}
 
 -- the least position at or past lo with the power u, if it is below l; no position below l, if it is not
 pub record Nearest (power : ℕ → ℕ) (l lo u p : ℕ) : Type 0 where
   pub skipped : (q : ℕ) → lo ≤ q → q < p → q < l → power q ≡ u → ⊥
   pub met : p < l → (lo ≤ p) × (power p ≡ u)
 
--- what the two tables are to a search: the powers below l, and the first position of each
-pub record Lookup (power : ℕ → ℕ) (pow first : List ℕ) (period : ℕ) : Type 0 where
-  pub known : (p : ℕ) → p < length pow → getD pow p 0 ≡ power p
+-- the first position of each power, and the period: what only the look-up of the last position needs
+pub record Firsts (power : ℕ → ℕ) (first : List ℕ) (period : ℕ) : Type 0 where
   pub hit : (s : ℕ) → s < length first → getD first s 0 < 65535 → power (getD first s 0) ≡ s
   pub least : (p : ℕ) → getD first (power p) 0 ≤ p
   pub again : (p : ℕ) → power (p + period) ≡ power p
   pub only : (p q : ℕ) → power p ≡ power q → p ≤ q → (k : ℕ) × (q ≡ p + k * period)
 
--- how they have to lie for each look-up to be within the tables
-pub record Shape (pow first : List ℕ) (period : ℕ) : Type 0 where
+-- what the two tables are to a search: the powers below the length of `pow`, and the first position of each
+pub record Lookup (power : ℕ → ℕ) (pow first : List ℕ) (period : ℕ) : Type 0 where
+  pub known : (p : ℕ) → p < length pow → getD pow p 0 ≡ power p
+  pub firsts : Firsts power first period
+
+-- remainders below 2 ^ n, at most so many
+pub record Shape (n : ℕ) (pow : List ℕ) : Type 0 where
   pub short : length pow ≤ 4096
-  pub inside : (p : ℕ) → p < length pow → getD pow p 0 < length first
-  pub closed : (a b : ℕ) → a < length first → b < length first → bitXor a b < length first
+  pub inside : (p : ℕ) → p < length pow → getD pow p 0 < 2 ^ n
+
+-- an entry for each of them: again for the look-up alone
+pub record Indexed (n : ℕ) (first : List ℕ) (period : ℕ) : Type 0 where
+  pub full : length first ≡ 2 ^ n
   pub positive : 1 ≤ period
 
--- they do, the search starts within them, and the sum looked for is within the second
+-- the tables lie so, the search starts within them, and the sum looked for is a remainder too
 pub record Ready (pow first : List ℕ) (period lo u : ℕ) : Type 0 where
-  pub shape : Shape pow first period
+  pub n : ℕ
+  pub shape : Shape n pow
+  pub index : Indexed n first period
   pub start : lo ≤ length pow
-  pub sum : u < length first
+  pub sum : u < 2 ^ n
 
 -- what placing k positions from lo on answers, for whatever powers the tables describe
 abbrev pub Placed : List ℕ → List ℕ → ℕ → ℕ → ℕ → ℕ → Bool → List ℕ → Type 0
@@ -95,12 +105,12 @@ Placed pow first period k lo u r pos =
 
 -- a search through `ahead`, a part of `list` that ends where the list ends: nothing is there, or the set found
 -- leads it, and behind it stands what comes after it in the list
-pub record Leads (l : ℕ) (list ahead : List (List ℕ)) (p : List ℕ) : Type 0 where
+pub record FoundFirst (l : ℕ) (list ahead : List (List ℕ)) (p : List ℕ) : Type 0 where
   pub split : ahead ≡ p ∷ sift (before p) list
   pub ascends : Ascending l 0 p
 
 abbrev pub Told : ℕ → ℕ → List (List ℕ) → List (List ℕ) → Found → List ℕ → Type 0
-Told l limit list ahead (At k) pos = Leads l list ahead (take k pos) × (k ≤ limit)
+Told l limit list ahead (At k) pos = FoundFirst l list ahead (take k pos) × (k ≤ limit)
 Told l limit list ahead Nothing pos = ahead ≡ []
 
 -- what the two searches tell, for whatever powers the tables describe: of the list, and of what follows p in it

@@ -4,10 +4,10 @@
 ghost use mathlib.Core.Path.{_≡_};
 ghost use Prim.Native.Nat.{ℕ, _+_, _-_, _≤_};
 ghost use lib.ListN.{length, take};
-ghost use Rattle.patterns.specs.Listing.{Ascending};
+ghost use Rattle.base.specs.Lists.{Ascending};
 ghost use Rattle.search.specs.Search.{
   answer,
-  Counted,
+  CountWithin,
   FirstTold,
   firstAfter,
   found,
@@ -29,7 +29,7 @@ pub enum Found {
 // The least position at or past `lo` whose power is `u`, by the first one and the period. What it returns is at or
 // past the end of `pow` where there is none below it. The first test asks whether the first position is at or past
 // `lo` and below the length, both at once: nearly every trial fails it, and a second test would be a gamble.
-fn nearest(pow: &[u16], first: &[u16], period: usize, lo: usize, u: usize) -> usize
+fn nearest(pow: &[u32], first: &[u16], period: usize, lo: usize, u: usize) -> usize
     requires { ⌜ Ready (now pow) (now first) period lo u ⌝ }
     ensures { λ r. ⌜ ((power : ℕ → ℕ) → Lookup power (now (pow .entry)) (now (first .entry)) period → Nearest power (length (now (pow .entry))) lo u r) ⌝ }
 {
@@ -48,7 +48,7 @@ fn nearest(pow: &[u16], first: &[u16], period: usize, lo: usize, u: usize) -> us
 }
 
 // Places one position.
-fn single(pow: &[u16], first: &[u16], period: usize, lo: usize, u: usize, pos: &mut [u16]) -> bool
+fn single(pow: &[u32], first: &[u16], period: usize, lo: usize, u: usize, pos: &mut [u16]) -> bool
     requires { ⌜ Ready (now pow) (now first) period lo u × (length (now pos) ≡ 1) ⌝ }
     ensures { λ r. ⌜ Placed (now (pow .entry)) (now (first .entry)) period 1 lo u r (now (pos .exit)) ⌝ }
 {
@@ -61,7 +61,7 @@ fn single(pow: &[u16], first: &[u16], period: usize, lo: usize, u: usize, pos: &
 }
 
 // Places two positions: the first goes through the positions, and the second is looked up.
-fn pair(pow: &[u16], first: &[u16], period: usize, lo: usize, u: usize, pos: &mut [u16]) -> bool
+fn pair(pow: &[u32], first: &[u16], period: usize, lo: usize, u: usize, pos: &mut [u16]) -> bool
     requires { ⌜ Ready (now pow) (now first) period lo u × (length (now pos) ≡ 2) ⌝ }
     ensures { λ r. ⌜ Placed (now (pow .entry)) (now (first .entry)) period 2 lo u r (now (pos .exit)) ⌝ }
 {
@@ -80,7 +80,7 @@ fn pair(pow: &[u16], first: &[u16], period: usize, lo: usize, u: usize, pos: &mu
 }
 
 // Places at most two positions.
-fn few(pow: &[u16], first: &[u16], period: usize, lo: usize, u: usize, pos: &mut [u16]) -> bool
+fn few(pow: &[u32], first: &[u16], period: usize, lo: usize, u: usize, pos: &mut [u16]) -> bool
     requires { ⌜ Ready (now pow) (now first) period lo u × (length (now pos) ≤ 2) ⌝ }
     ensures { λ r. ⌜ Placed (now (pow .entry)) (now (first .entry)) period (length (now (pos .entry))) lo u r (now (pos .exit)) ⌝ }
 {
@@ -98,7 +98,7 @@ fn few(pow: &[u16], first: &[u16], period: usize, lo: usize, u: usize, pos: &mut
 
 // Places as many positions as `pos` has room for: the first goes through the positions, and the others are placed
 // behind it.
-fn place(pow: &[u16], first: &[u16], period: usize, lo: usize, u: usize, pos: &mut [u16]) -> bool
+fn place(pow: &[u32], first: &[u16], period: usize, lo: usize, u: usize, pos: &mut [u16]) -> bool
     requires { ⌜ Ready (now pow) (now first) period lo u ⌝ }
     ensures { λ r. ⌜ Placed (now (pow .entry)) (now (first .entry)) period (length (now (pos .entry))) lo u r (now (pos .exit)) ⌝ }
 {
@@ -118,7 +118,7 @@ fn place(pow: &[u16], first: &[u16], period: usize, lo: usize, u: usize, pos: &m
 }
 
 // Goes on from two positions. It is `resume` for two, and spelt out since a page does it for each record.
-fn resume_pair(pow: &[u16], first: &[u16], period: usize, u: usize, pos: &mut [u16]) -> bool
+fn resume_pair(pow: &[u32], first: &[u16], period: usize, u: usize, pos: &mut [u16]) -> bool
     requires { ⌜ Ready (now pow) (now first) period 0 u × (length (now pos) ≡ 2) × Ascending (length (now pow)) 0 (now pos) ⌝ }
     ensures { λ r. ⌜ ((power : ℕ → ℕ) → Lookup power (now (pow .entry)) (now (first .entry)) period → answer r (now (pos .exit)) ≡ firstAfter power (length (now (pow .entry))) (now (pos .entry)) u) ⌝ }
 {
@@ -134,7 +134,7 @@ fn resume_pair(pow: &[u16], first: &[u16], period: usize, u: usize, pos: &mut [u
 
 // Goes on from the positions in `pos`, which need not have the sum `u`: to the first set of as many positions that
 // comes after them.
-fn resume(pow: &[u16], first: &[u16], period: usize, u: usize, pos: &mut [u16]) -> bool
+fn resume(pow: &[u32], first: &[u16], period: usize, u: usize, pos: &mut [u16]) -> bool
     requires { ⌜ Ready (now pow) (now first) period 0 u × Ascending (length (now pow)) 0 (now pos) ⌝ }
     ensures { λ r. ⌜ ((power : ℕ → ℕ) → Lookup power (now (pow .entry)) (now (first .entry)) period → answer r (now (pos .exit)) ≡ firstAfter power (length (now (pow .entry))) (now (pos .entry)) u) ⌝ }
 {
@@ -153,9 +153,9 @@ fn resume(pow: &[u16], first: &[u16], period: usize, u: usize, pos: &mut [u16]) 
 }
 
 // Rises through the counts from `count` to the length of `pos`.
-fn rise(pow: &[u16], first: &[u16], period: usize, count: usize, u: usize, pos: &mut [u16]) -> Found
+fn rise(pow: &[u32], first: &[u16], period: usize, count: usize, u: usize, pos: &mut [u16]) -> Found
     requires { ⌜ Ready (now pow) (now first) period 0 u × (count ≤ length (now pos) + 1) ⌝ }
-    ensures counted { λ r. ⌜ Counted (length (now (pos .entry))) r ⌝ }
+    ensures counted { λ r. ⌜ CountWithin (length (now (pos .entry))) r ⌝ }
     ensures first { λ r. ⌜ ((power : ℕ → ℕ) → Lookup power (now (pow .entry)) (now (first .entry)) period → found r (now (pos .exit)) ≡ headOf (summing power u (rising (length (now (pow .entry))) count (length (now (pos .entry)) + 1 - count)))) ⌝ }
 {
     let mut k = count;
@@ -170,7 +170,7 @@ fn rise(pow: &[u16], first: &[u16], period: usize, count: usize, u: usize, pos: 
 
 // The first listed pattern of at most as many positions as `pos` has room for: its count, and its positions in front.
 pub fn search_first(
-    pow: &[u16],
+    pow: &[u32],
     first: &[u16],
     period: u64,
     syndrome: u64,
@@ -184,7 +184,7 @@ pub fn search_first(
 
 // The first listed pattern that follows the one in front of `pos`, which need not be listed.
 pub fn search_next(
-    pow: &[u16],
+    pow: &[u32],
     first: &[u16],
     period: u64,
     syndrome: u64,

@@ -6,6 +6,4 @@ pub mod FirstLaws
 pub mod TableLaws
 pub mod RuleLaws
 pub mod GatherLaws
-pub mod LentLaws
 pub mod WalkLaws
-pub mod AdmitLaws

@@ -9,7 +9,7 @@ use borrow.Author.Tests.{eqb-true, eq-eqb}
 use lib.Dec.{eqb}
 use lib.Pow.{pow-pos}
 use Rattle.base.proofs.Cases.{by-order, by-equal}
-use Rattle.poly.specs.Generators.{Divisor}
+use Rattle.poly.specs.Fit.{Divisor}
 use Rattle.tables.specs.Tables.{power, period}
 use Rattle.tables.proofs.LeastLaws.{least-found, Least, Twice, pigeonhole}
 use Rattle.tables.proofs.PowerLaws.{power-lt, power-zero, power-nonzero, power-after, power-before}

@@ -6,7 +6,7 @@ use native.Mathlib.Nat.{add-zero, add-suc}
 use lib.Pow.{pow-pos, pow-mono}
 use Rattle.base.proofs.Cases.{by-equal}
 use Rattle.poly.specs.Polynomial.{rem, reduce}
-use Rattle.poly.specs.Generators.{Divisor}
+use Rattle.poly.specs.Fit.{Divisor}
 use Rattle.poly.proofs.DivisionLaws.{rem-double, rem-small, rem-lt}
 use Rattle.tables.specs.Tables.{power, step}
 use Rattle.tables.proofs.StepLaws.{step-is, step-twice}

@@ -12,8 +12,8 @@ use lib.ListN.{length, getD}
 use lib.Pow.{pow-mono, pow-pos}
 use Rattle.base.proofs.Cases.{by-order, by-equal}
 use Rattle.poly.specs.Polynomial.{reduce}
-use Rattle.poly.specs.Generators.{Divisor}
-use Rattle.tables.specs.Tables.{power, step, first, period, stepTable, firstTable}
+use Rattle.poly.specs.Fit.{Divisor}
+use Rattle.tables.specs.Tables.{entryBits, power, step, first, period, stepTable, firstTable}
 use Rattle.tables.specs.Rule.{later, EvenRuled, OddRuled}
 use Rattle.tables.proofs.StepLaws.{by-parity, step-is, step-halves, step-inverts, rem-twice}
 use Rattle.tables.proofs.PowerLaws.{power-lt, power-suc, power-zero, power-nonzero, step-power}
@@ -31,7 +31,7 @@ pow-even : (n : ℕ) → 1 ≤ n → 2 ^ n % 2 ≡ 0
 pow-even zero h = absurd (omega arith)
 pow-even (suc n) h = omega arith
 
-module _ (n g : ℕ) (d : Divisor n g) (atLeast : 1 ≤ n) (atMost : n ≤ 16) where
+module _ (n g : ℕ) (d : Divisor n g) (atLeast : 1 ≤ n) (atMost : n ≤ entryBits) where
   -- a power whose step is known
   from-step : (s p : ℕ) → s < 2 ^ n → step n g s ≡ power n g p → power n g (suc p) ≡ s
   from-step s p b e =

@@ -1,6 +1,6 @@
 -- Multiplying by x can be undone, since the generator is odd: every remainder is x times exactly one remainder, its step.
 use mathlib.Core.Path.{_≡_, sym, ap, ap₂, _∙_}
-use Prim.Native.Nat.{ℕ, zero, suc, _*_, _/_, _%_, _^_, _<_, _≤_}
+use Prim.Native.Nat.{ℕ, suc, _*_, _/_, _%_, _^_, _<_, _≤_}
 use native.Mathlib.Omega.{arith}
 use native.Mathlib.Nat.{zero-mul, one-mul, div-eq-of-lt, div-eq-of-lt-le, le-div-iff-mul-le}
 use borrow.Author.Tests.{eqb-true, eq-eqb}
@@ -10,16 +10,10 @@ use lib.Bits.{bitXor, differ, xor-zero-l, xor-zero-r, xor-lt, xor-shr}
 use Rattle.base.proofs.Cases.{by-order, by-equal}
 use Rattle.base.proofs.XorLaws.{xor-half, xor-low, xor-ac}
 use Rattle.poly.specs.Polynomial.{rem, reduce}
-use Rattle.poly.specs.Generators.{Divisor}
+use Rattle.poly.specs.Fit.{Divisor}
 use Rattle.poly.proofs.DivisionLaws.{reduce-low, reduce-high, reduce-lt, rem-double, rem-small}
 use Rattle.tables.specs.Tables.{step}
 use Rattle.tables.proofs.LeastLaws.{least-found}
-
--- a digit times a number is at most that number
-pub digit-times : (e h : ℕ) → e < 2 → e * h ≤ h
-digit-times zero h l = simp zero-mul (omega arith)
-digit-times (suc zero) h l = simp one-mul (omega arith)
-digit-times (suc (suc e)) h l = absurd (omega arith)
 
 -- half of s, with the generator added first where s is odd
 unfoldable pub back : ℕ → ℕ → ℕ

@@ -10,8 +10,8 @@ use lib.ListN.{length, getD, set}
 use lib.Seq.{ext-getD, getD-set-same, getD-set-other}
 use borrow.Author.Count.{below-more}
 use Rattle.base.proofs.Cases.{by-test, by-order}
-use Rattle.poly.specs.Generators.{Divisor}
-use Rattle.tables.specs.Tables.{power, step, first, period, values, stepTable, firstTable, same, unfitTables, rightTables, wrongTables}
+use Rattle.poly.specs.Fit.{Divisor}
+use Rattle.tables.specs.Tables.{entryBits, power, step, first, period, values, stepTable, firstTable, same, unfitTables, rightTables, wrongTables}
 use Rattle.tables.proofs.FirstLaws.{first-hit, first-early, first-present, first-none}
 
 pub length-values : (f : ℕ → ℕ) (count from : ℕ) → length (values f count from) ≡ count
@@ -65,7 +65,7 @@ module _ (n g : ℕ) where
   firstTable-by-entries = values-by-entries (first n g) (2 ^ n)
 
 -- a list that has each power's position at its remainder, and the mark for absent elsewhere
-pub firstTable-by-powers : (n g : ℕ) → Divisor n g → 1 ≤ n → n ≤ 16 → (l : List ℕ) → length l ≡ 2 ^ n
+pub firstTable-by-powers : (n g : ℕ) → Divisor n g → 1 ≤ n → n ≤ entryBits → (l : List ℕ) → length l ≡ 2 ^ n
     → ((p : ℕ) → p < period n g → getD l (power n g p) 0 ≡ p)
     → ((s : ℕ) → s < 2 ^ n → ((p : ℕ) → power n g p ≡ s → ⊥) → getD l s 0 ≡ 65535)
     → l ≡ firstTable n g
@@ -144,7 +144,7 @@ pub not-wrong : (n g : ℕ) (a b : List ℕ) → wrongTables n g a b ≡ not (ri
 unfolding wrongTables
 not-wrong n g a b = refl
 
--- tables that are not turned down are the tables
+-- tables that are not refused are the tables
 pub right-unless-wrong : (n g : ℕ) (a b : List ℕ) → wrongTables n g a b ≡ false → (a ≡ stepTable n g) × (b ≡ firstTable n g)
 unfolding wrongTables
 right-unless-wrong n g a b e = right-tables n g a b (not-false _ e)

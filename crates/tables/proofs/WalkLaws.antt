@@ -10,8 +10,8 @@ use lib.ListN.{length, getD, set, replicate, getD-replicate}
 use lib.Seq.{getD-set-same, getD-set-other}
 use Rattle.base.proofs.Cases.{by-equal}
 use Rattle.poly.specs.Polynomial.{reduce}
-use Rattle.poly.specs.Generators.{Divisor}
-use Rattle.tables.specs.Tables.{power, first, period, firstTable}
+use Rattle.poly.specs.Fit.{Divisor}
+use Rattle.tables.specs.Tables.{entryBits, power, period, firstTable}
 use Rattle.tables.proofs.PowerLaws.{power-lt, power-suc}
 use Rattle.tables.proofs.PeriodLaws.{period-least, power-period, power-apart}
 use Rattle.tables.proofs.TableLaws.{firstTable-by-powers}
@@ -53,6 +53,6 @@ module _ (n g : ℕ) (d : Divisor n g) (atLeast : 1 ≤ n) where
   not-returned p h ne =
       by-equal (p + 1) (period n g) (λ e. absurd (ne (ap (power n g) e ∙ power-period n g d atLeast))) (λ no. omega arith)
 
-  module _ (atMost : n ≤ 16) where
+  module _ (atMost : n ≤ entryBits) where
     pub walked-all : (l : List ℕ) → length l ≡ 2 ^ n → Walked n g (period n g) l → l ≡ firstTable n g
     walked-all l e w = firstTable-by-powers n g d atLeast atMost l e (w .passed) (λ s b none. w .rest s b (λ k lt. none k))

@@ -5,19 +5,14 @@ use lib.ListN.{length}
 use Rattle.base.specs.Outcome.{Outcome, refused, accepted, Condition, when, judge}
 use Rattle.base.specs.Refusals.{number}
 use Rattle.poly.specs.Polynomial.{degree}
-use Rattle.poly.specs.Generators.{unfit, generatorOf}
-use Rattle.poly.specs.declared.Generator.{Generator}
+use Rattle.poly.specs.Generators.{unfit}
 use Rattle.tables.specs.Tables.{period, stepTable, firstTable, unfitTables}
 use Rattle.tables.specs.declared.TablesAnswer.{TablesAnswer}
 use Rattle.tables.specs.declared.TablesAnswer.the-variants.{Built, Refused}
 
--- turned down by 1 and 5, with tables of this many entries
+-- refused by 1 and 5, with tables of this many entries
 abbrev pub tablesConditions : ℕ → ℕ → ℕ → List Condition
 tablesConditions g steps firsts = when 1 (unfit g) ∷ when 5 (unfitTables (degree g) steps firsts) ∷ []
-
--- the generator that the call goes on with
-abbrev pub admitted : ℕ → ℕ → ℕ → Outcome Generator
-admitted g steps firsts = judge (tablesConditions g steps firsts) refused (accepted (generatorOf g))
 
 abbrev pub tablesAnswer : TablesAnswer → Outcome ℕ
 tablesAnswer (Built c) = accepted c

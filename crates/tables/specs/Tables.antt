@@ -1,13 +1,10 @@
 -- The powers of x by their remainders, for a generator g of degree n: the period, and the tables of steps and of first positions.
-use Prim.Native.Nat.{ℕ, zero, suc, _-_, _*_, _^_, _≤_}
-use mathlib.Core.Path.{_≡_}
+use Prim.Native.Nat.{ℕ, zero, suc, _-_, _*_, _^_}
 use mathlib.Core.Bool.{Bool, true, false, not, _&&_, _||_}
 use mathlib.Core.List.{List, [], _∷_}
 use lib.Dec.{eqb}
-use lib.ListN.{length}
 use Rattle.base.specs.Outcome.{pick}
 use Rattle.poly.specs.Polynomial.{rem}
-use Rattle.poly.specs.Generators.{Divisor}
 
 -- the remainder that x^p leaves
 unfoldable pub power : ℕ → ℕ → ℕ → ℕ
@@ -23,16 +20,19 @@ unfoldable pub step : ℕ → ℕ → ℕ → ℕ
 unfolding least
 step n g s = least (λ t. eqb (rem n g (t * 2)) s) 0 (2 ^ n) 0
 
--- the entry that says that no power of x leaves this remainder
-abbrev pub absent : ℕ
-absent = 65535
+-- the bits of an entry, and the entry that says that no power of x leaves this remainder: the greatest that there is
+abbrev pub entryBits : ℕ
+entryBits = 16
 
--- the least p with x^p leaving s; FirstLaws has that a search below 2 ^ n misses nothing
+abbrev pub absent : ℕ
+absent = 2 ^ entryBits - 1
+
+-- the smallest p such that x^p leaves s; FirstLaws has that a search below 2 ^ n misses nothing
 unfoldable pub first : ℕ → ℕ → ℕ → ℕ
 unfolding least
 first n g s = least (λ p. eqb (power n g p) s) absent (2 ^ n) 0
 
--- the least c of at least 1 with x^c leaving 1; PeriodLaws has that there is one below 2 ^ n
+-- the smallest positive c such that x^c leaves 1; PeriodLaws has that there is one below 2 ^ n
 unfoldable pub period : ℕ → ℕ → ℕ
 unfolding least
 period n g = least (λ c. eqb (power n g c) 1) 0 (2 ^ n - 1) 1
@@ -69,10 +69,3 @@ rightTables n g steps firsts = same steps (stepTable n g) && same firsts (firstT
 -- condition 6: a table entry is wrong
 unfoldable pub wrongTables : ℕ → ℕ → List ℕ → List ℕ → Bool
 wrongTables n g steps firsts = not (rightTables n g steps firsts)
-
--- a generator of degree n, and a slice with room for one of its tables: what the inner functions ask
-pub record Lent (n g : ℕ) (l : List ℕ) : Type 0 where
-  pub divisor : Divisor n g
-  pub atLeast : 3 ≤ n
-  pub atMost : n ≤ 16
-  pub full : length l ≡ 2 ^ n

@@ -1,15 +1,15 @@
 // The two tables of a generator and its period, and the verification of tables that are lent.
+use base::Judgement;
 use base::Refusal;
-use poly::Construction;
 use poly::Generator;
 ghost use mathlib.Core.Path.{_≡_};
-ghost use Prim.Native.Nat.{_+_, _-_, _*_, _/_, _%_, _^_, _<_, _≤_};
+ghost use Prim.Native.Nat.{_*_, _/_, _%_, _^_};
 ghost use lib.Bits.{bitXor};
 ghost use lib.Dec.{eqb};
 ghost use lib.ListN.{length, replicate};
 ghost use mathlib.Core.Logic.{_↔_};
-ghost use Rattle.poly.specs.Polynomial.{reduce};
-ghost use Rattle.poly.specs.Generators.{construction, Divisor};
+ghost use Rattle.base.specs.Judged.{judgement, judged};
+ghost use Rattle.poly.specs.Fit.{Fit};
 ghost use Rattle.tables.specs.Tables.{
   period,
   stepTable,
@@ -17,11 +17,10 @@ ghost use Rattle.tables.specs.Tables.{
   same,
   unfitTables,
   rightTables,
-  Lent,
 };
-ghost use Rattle.tables.specs.Rule.{later, EvenRuled, OddRuled};
+ghost use Rattle.tables.specs.Rule.{Lent, later, EvenRuled, OddRuled};
 ghost use Rattle.tables.specs.Calls.{
-  admitted,
+  tablesConditions,
   tablesAnswer,
   tablesCall,
   stepsAfter,
@@ -43,20 +42,11 @@ fn back(half: u16, s: u16) -> u16
     (s / 2) ^ (s % 2 * half)
 }
 
-// x times the remainder `t`, reduced.
-pub fn times_x(g: Generator, t: u64) -> u64
-    requires { ⌜ (g .degree ≤ 16) × (g .bits < 2 ^ 17) × (t < 2 ^ g .degree) ⌝ }
-    ensures { λ r. ⌜ r ≡ reduce (g .degree) (g .bits) (t * 2) ⌝ }
-{
-    let u = t * 2;
-    ((u >> g.degree) * g.bits) ^ u
-}
-
 fn fill_steps(g: Generator, steps: &mut [u16])
-    requires { ⌜ Lent (g .degree) (g .bits) (now steps) ⌝ }
-    ensures { λ _. ⌜ now (steps .exit) ≡ stepTable (g .degree) (g .bits) ⌝ }
+    requires { ⌜ Lent g (now steps) ⌝ }
+    ensures { λ _. ⌜ now (steps .exit) ≡ stepTable (g .degree) (g .coefficients) ⌝ }
 {
-    let half = (g.bits / 2) as u16;
+    let half = (g.coefficients / 2) as u16;
     let mut s: usize = 0;
     while s < steps.len() {
         steps[s] = back(half, s as u16);
@@ -76,15 +66,15 @@ fn clear(firsts: &mut [u16])
 
 // Walks the powers of x until remainder 1 returns, and yields the period.
 fn walk(g: Generator, firsts: &mut [u16]) -> u64
-    requires { ⌜ Lent (g .degree) (g .bits) (now firsts) × (now firsts ≡ replicate (2 ^ g .degree) 65535) ⌝ }
-    ensures { λ r. ⌜ r ≡ period (g .degree) (g .bits) ⌝ }
-    ensures { λ _. ⌜ now (firsts .exit) ≡ firstTable (g .degree) (g .bits) ⌝ }
+    requires { ⌜ Lent g (now firsts) × (now firsts ≡ replicate (2 ^ g .degree) 65535) ⌝ }
+    ensures { λ r. ⌜ r ≡ period (g .degree) (g .coefficients) ⌝ }
+    ensures { λ _. ⌜ now (firsts .exit) ≡ firstTable (g .degree) (g .coefficients) ⌝ }
 {
     let mut t: u64 = 1;
     let mut p: u64 = 0;
     let c = loop {
         firsts[t as usize] = p as u16;
-        t = times_x(g, t);
+        t = poly::times_x(g, t);
         p += 1;
         if t == 1 {
             break p;
@@ -95,7 +85,7 @@ fn walk(g: Generator, firsts: &mut [u16]) -> u64
 
 // Condition 5, by the numbers of entries.
 pub fn unfit_tables(g: Generator, steps: usize, firsts: usize) -> bool
-    requires { ⌜ g .degree ≤ 16 ⌝ }
+    requires { ⌜ Fit g ⌝ }
     ensures { λ r. ⌜ r ≡ unfitTables (g .degree) steps firsts ⌝ }
 {
     let size = 1usize << g.degree;
@@ -107,10 +97,10 @@ pub fn unfit_tables(g: Generator, steps: usize, firsts: usize) -> bool
 
 // 0 exactly when every entry is right; mismatches are gathered, so that no entry waits for another.
 fn wrong_steps(g: Generator, steps: &[u16]) -> u16
-    requires { ⌜ Lent (g .degree) (g .bits) (now steps) ⌝ }
-    ensures { λ r. ⌜ eqb r 0 ≡ same (now (steps .entry)) (stepTable (g .degree) (g .bits)) ⌝ }
+    requires { ⌜ Lent g (now steps) ⌝ }
+    ensures { λ r. ⌜ eqb r 0 ≡ same (now (steps .entry)) (stepTable (g .degree) (g .coefficients)) ⌝ }
 {
-    let half = (g.bits / 2) as u16;
+    let half = (g.coefficients / 2) as u16;
     let mut wrong: u16 = 0;
     let mut k: usize = 0;
     while k < steps.len() / 2 {
@@ -143,10 +133,10 @@ fn wrong_evens(firsts: &[u16]) -> u16
 
 // The same for the odd places above 1, whose step is their half plus that of the generator.
 fn wrong_odds(g: Generator, firsts: &[u16]) -> u16
-    requires { ⌜ Lent (g .degree) (g .bits) (now firsts) ⌝ }
-    ensures { λ r. ⌜ (r ≡ 0) ↔ OddRuled (g .bits / 2) (now (firsts .entry)) ⌝ }
+    requires { ⌜ Lent g (now firsts) ⌝ }
+    ensures { λ r. ⌜ (r ≡ 0) ↔ OddRuled (g .coefficients / 2) (now (firsts .entry)) ⌝ }
 {
-    let half = (g.bits / 2) as usize;
+    let half = (g.coefficients / 2) as usize;
     let mut wrong: u16 = 0;
     let mut k: usize = 1;
     while k < firsts.len() / 2 {
@@ -159,8 +149,8 @@ fn wrong_odds(g: Generator, firsts: &[u16]) -> u16
 
 // 0 exactly when every entry is right: each is one position after the entry at its step, and that of 1 is 0.
 fn wrong_firsts(g: Generator, firsts: &[u16]) -> u16
-    requires { ⌜ Lent (g .degree) (g .bits) (now firsts) ⌝ }
-    ensures { λ r. ⌜ eqb r 0 ≡ same (now (firsts .entry)) (firstTable (g .degree) (g .bits)) ⌝ }
+    requires { ⌜ Lent g (now firsts) ⌝ }
+    ensures { λ r. ⌜ eqb r 0 ≡ same (now (firsts .entry)) (firstTable (g .degree) (g .coefficients)) ⌝ }
 {
     let evens = wrong_evens(firsts);
     let odds = wrong_odds(g, firsts);
@@ -169,8 +159,8 @@ fn wrong_firsts(g: Generator, firsts: &[u16]) -> u16
 
 // Whether both tables are right, whatever they hold: the test of condition 6.
 pub fn verify(g: Generator, steps: &[u16], firsts: &[u16]) -> bool
-    requires { ⌜ Lent (g .degree) (g .bits) (now steps) × Lent (g .degree) (g .bits) (now firsts) ⌝ }
-    ensures { λ r. ⌜ r ≡ rightTables (g .degree) (g .bits) (now (steps .entry)) (now (firsts .entry)) ⌝ }
+    requires { ⌜ Lent g (now steps) × Lent g (now firsts) ⌝ }
+    ensures { λ r. ⌜ r ≡ rightTables (g .degree) (g .coefficients) (now (steps .entry)) (now (firsts .entry)) ⌝ }
 {
     let s = wrong_steps(g, steps);
     let f = wrong_firsts(g, firsts);
@@ -179,40 +169,37 @@ pub fn verify(g: Generator, steps: &[u16], firsts: &[u16]) -> bool
 
 // The period, in two look-ups, of tables that are right.
 pub fn period_of(g: Generator, steps: &[u16], firsts: &[u16]) -> u64
-    requires { ⌜ Lent (g .degree) (g .bits) (now steps) ⌝ }
-    requires { ⌜ (now steps ≡ stepTable (g .degree) (g .bits)) × (now firsts ≡ firstTable (g .degree) (g .bits)) ⌝ }
-    ensures { λ r. ⌜ r ≡ period (g .degree) (g .bits) ⌝ }
+    requires { ⌜ Lent g (now steps) ⌝ }
+    requires { ⌜ (now steps ≡ stepTable (g .degree) (g .coefficients)) × (now firsts ≡ firstTable (g .degree) (g .coefficients)) ⌝ }
+    ensures { λ r. ⌜ r ≡ period (g .degree) (g .coefficients) ⌝ }
 {
     let t = steps[1] as usize;
     firsts[t] as u64 + 1
 }
 
-// Conditions 1 and 5, for tables of this many entries; else the generator with its degree.
-pub fn admit(generator: u64, steps: usize, firsts: usize) -> Construction
-    ensures { λ r. ⌜ construction r ≡ admitted generator steps firsts ⌝ }
-{
-    let made = Generator::new(generator);
-    match made {
-        Construction::Refused(r) => Construction::Refused(r),
-        Construction::Made(g) => {
-            if unfit_tables(g, steps, firsts) {
-                return Construction::Refused(Refusal::TableLength);
-            }
-            Construction::Made(g)
-        }
-    }
-}
-
 // Fills both tables, and yields the period.
 fn build(g: Generator, steps: &mut [u16], firsts: &mut [u16]) -> u64
-    requires { ⌜ Lent (g .degree) (g .bits) (now steps) × Lent (g .degree) (g .bits) (now firsts) ⌝ }
-    ensures { λ r. ⌜ r ≡ period (g .degree) (g .bits) ⌝ }
-    ensures { λ _. ⌜ now (steps .exit) ≡ stepTable (g .degree) (g .bits) ⌝ }
-    ensures { λ _. ⌜ now (firsts .exit) ≡ firstTable (g .degree) (g .bits) ⌝ }
+    requires { ⌜ Lent g (now steps) × Lent g (now firsts) ⌝ }
+    ensures { λ r. ⌜ r ≡ period (g .degree) (g .coefficients) ⌝ }
+    ensures { λ _. ⌜ now (steps .exit) ≡ stepTable (g .degree) (g .coefficients) ⌝ }
+    ensures { λ _. ⌜ now (firsts .exit) ≡ firstTable (g .degree) (g .coefficients) ⌝ }
 {
     fill_steps(g, steps);
     clear(firsts);
     walk(g, firsts)
+}
+
+// The conditions of the call, in their order, for tables of this many entries.
+fn judge_tables(generator: u64, steps: usize, firsts: usize) -> Judgement
+    ensures { λ r. ⌜ judgement r ≡ judged (tablesConditions generator steps firsts) ⌝ }
+{
+    if poly::unfit_generator(generator) {
+        return Judgement::Refused(Refusal::Generator);
+    }
+    if unfit_tables(Generator::of(generator), steps, firsts) {
+        return Judgement::Refused(Refusal::TableLength);
+    }
+    Judgement::Passed
 }
 
 // Builds both tables and answers the period.
@@ -221,9 +208,9 @@ pub fn tables(generator: u64, steps: &mut [u16], firsts: &mut [u16]) -> TablesAn
     ensures steps { λ _. ⌜ now (steps .exit) ≡ stepsAfter generator (now (steps .entry)) (now (firsts .entry)) ⌝ }
     ensures firsts { λ _. ⌜ now (firsts .exit) ≡ firstsAfter generator (now (steps .entry)) (now (firsts .entry)) ⌝ }
 {
-    let admitted = admit(generator, steps.len(), firsts.len());
-    match admitted {
-        Construction::Refused(r) => TablesAnswer::Refused(r),
-        Construction::Made(g) => TablesAnswer::Built(build(g, steps, firsts)),
+    let judged = judge_tables(generator, steps.len(), firsts.len());
+    match judged {
+        Judgement::Refused(r) => TablesAnswer::Refused(r),
+        Judgement::Passed => { TablesAnswer::Built(build(Generator::of(generator), steps, firsts)) }
     }
 }

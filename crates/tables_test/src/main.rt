@@ -1,9 +1,10 @@
 // Builds tables, breaks them entry by entry, and prints what the calls answer.
 //
-// The expected output was not made by this code. Five's first positions are those of document 000's tables 2 and 3, with 65535
-// for its -1; its steps were found by trying every t. The periods of the catalogue's generators are the least exponents whose
-// powers, by squaring, leave 1.
+// The expected output was not made by this code. Five's first positions are those of tables 2 and 3 of Boussard and others
+// (docs/RULES.md, sources), with 65535 for their -1; its steps were found by trying every t. The periods of the catalogue's
+// generators are the least exponents whose powers, by squaring, leave 1.
 use poly::Construction;
+use poly::Generator;
 use tables::TablesAnswer;
 ghost use Prim.Native.Nat.{_≤_};
 
@@ -109,7 +110,7 @@ const SIZES: [usize; 47] = [
     65536,
 ];
 
-// What the slices hold before a call that is turned down.
+// What the slices hold before a call that is refused.
 const MARK: u16 = 7777;
 
 fn build(generator: u64, steps: &mut [u16], firsts: &mut [u16]) {
@@ -145,18 +146,22 @@ fn wide(x: u16) -> u64 {
 fn five() {
     let mut steps = [0u16; 32];
     let mut firsts = [0u16; 32];
-    build(53, &mut steps, &mut firsts);
+    let g = Generator::five();
+    build(g.coefficients, &mut steps, &mut firsts);
     print_tables(&steps, &firsts);
 }
 
-// 1 if the generator and both tables are admitted and every entry is right, else 0.
+// 1 if the generator and both tables' lengths are fit and every entry is right, else 0.
 fn verdict(generator: u64, steps: &[u16], firsts: &[u16]) -> u64
     ensures { λ r. ⌜ r ≤ 1 ⌝ }
 {
-    let admitted = tables::admit(generator, steps.len(), firsts.len());
-    match admitted {
+    let made = Generator::new(generator);
+    match made {
         Construction::Refused(_) => 0,
         Construction::Made(g) => {
+            if tables::unfit_tables(g, steps.len(), firsts.len()) {
+                return 0;
+            }
             if tables::verify(g, steps, firsts) {
                 return 1;
             }
@@ -250,7 +255,7 @@ fn kept(s: &[u16]) -> u64 {
     n
 }
 
-// A call that is turned down: its answer, and how much of each slice is as it was.
+// A call that is refused: its answer, and how much of each slice is as it was.
 fn turned_down(generator: u64, steps: &mut [u16], firsts: &mut [u16]) {
     mark(steps);
     mark(firsts);
@@ -300,7 +305,8 @@ fn whole() {
     let mut steps = [0u16; 65536];
     let mut firsts = [0u16; 65536];
     periods(&mut steps, &mut firsts);
-    breakage(69665, &mut steps, &mut firsts, 4099);
+    let g = Generator::ccitt();
+    breakage(g.coefficients, &mut steps, &mut firsts, 4099);
 }
 
 fn small() {

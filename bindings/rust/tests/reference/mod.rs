@@ -1,7 +1,7 @@
 //! The rules of the library once more, written plainly and slowly: long division bit by bit, every combination of
 //! positions tried, every candidate packet summed anew. The tests hold the library to it.
 //!
-//! A call gives `Err` with the number of the condition that turned it down, and then has changed nothing.
+//! A call gives `Err` with the number of the condition that refused it, and then has changed nothing.
 
 use std::cell::RefCell;
 use std::rc::Rc;

@@ -1,20 +1,13 @@
 -- `add_word` adds the carry of a sum of two words back in.
-use mathlib.Core.Path.{refl}
 use native.Mathlib.Omega.{arith}
 use borrow.Author.Needs.{needs}
 use Rattle.checksum.specs.Checksum.{folded}
 use Rattle.checksum.proofs.add_word.Statement.{statement}
 use Rattle.checksum.proofs.add_word.Tie as tie
 
-add-t : tie.Need-add-t
-add-t c = search needs
-
-add-result : tie.Need-add-result
-add-result c = search needs
-
 returns : tie.Need-returns
 unfolding folded
-returns c = (refl, omega arith)
+returns c = (omega arith, omega arith)
 
 pub add-word-spec : {M : Type 1} → statement M
-add-word-spec = tie.close (tie.spec add-t add-result returns)
+add-word-spec = tie.close (tie.spec (λ c. search needs) (λ c. search needs) returns)

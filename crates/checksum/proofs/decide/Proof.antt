@@ -1,13 +1,12 @@
 -- `decide` tells a positive multiple of FFFFh.
-use mathlib.Core.Path.{sym, ap, _∙_}
+use mathlib.Core.Path.{sym}
 use native.Mathlib.Omega.{arith}
-use Rattle.checksum.specs.Totals.{multiple}
 use Rattle.checksum.proofs.SumLaws.{multiple-zero, multiple-positive}
 use Rattle.checksum.proofs.decide.Statement.{statement}
 use Rattle.checksum.proofs.decide.Tie as tie
 
 returns : tie.Need-returns
-returns c = sym (ap multiple (c .if1 .taken) ∙ multiple-zero)
+returns c = sym (multiple-zero _ (omega arith))
 
 returns-2 : tie.Need-returns-2
 returns-2 c = sym (multiple-positive _ (omega arith))

@@ -16,23 +16,11 @@ low c = omega (arith, c .shared-slice-known2 .given (c .before .before .before .
 last : (c : tie.After-shared-slice-known3) → getD (c .before .before .args .s .now) (c .before .before .args .i) 0 < 256
 last c = omega (arith, c .shared-slice-known3 .given (c .before .before .args .i))
 
-add-if1 : tie.Need-add-if1
-add-if1 c = search needs
-
-shared-slice-read-result : tie.Need-shared-slice-read-result
-shared-slice-read-result c = search needs
-
 cast-result : tie.Need-cast-result
 cast-result c = omega (arith, high c)
 
 mul-result : tie.Need-mul-result
 mul-result c = omega (arith, high c)
-
-add-result : tie.Need-add-result
-add-result c = search needs
-
-shared-slice-read-result-2 : tie.Need-shared-slice-read-result-2
-shared-slice-read-result-2 c = search needs
 
 cast-result-2 : tie.Need-cast-result-2
 cast-result-2 c = omega (arith, low c)
@@ -42,9 +30,6 @@ add-result-2 c = omega (arith, high (c .before), low c)
 
 returns : tie.Need-returns
 returns c = omega (arith, high (c .before), low c)
-
-shared-slice-read-result-3 : tie.Need-shared-slice-read-result-3
-shared-slice-read-result-3 c = search needs
 
 cast-result-3 : tie.Need-cast-result-3
 cast-result-3 c = omega (arith, last c)
@@ -59,16 +44,16 @@ pub word-at-spec : {M : Type 1} → statement M
 word-at-spec =
     tie.close
     (tie.spec
-    add-if1
-    shared-slice-read-result
+    (λ c. search needs)
+    (λ c. search needs)
     cast-result
     mul-result
-    add-result
-    shared-slice-read-result-2
+    (λ c. search needs)
+    (λ c. search needs)
     cast-result-2
     add-result-2
     returns
-    shared-slice-read-result-3
+    (λ c. search needs)
     cast-result-3
     mul-result-2
     returns-2)

@@ -26,22 +26,6 @@ abbrev decimal-at-below : ℕ → In 1 decimal-at-kinds.ps
 decimal-at-below t =
     and 1 decimal-at-kinds.ps (falls 1 decimal-at-kinds.ps _<_ μ-decimal-at t) decimal-at.Pre
 
-decimal-at-cast-out :
-    (t : ℕ) →
-    decimal-at-lts.Need-cast-out
-    (decimal-at-below t, decimal-at.Post)
-    (decimal-at-at t)
-    decimal-at.Post
-decimal-at-cast-out t c = search needs
-
-decimal-at-add-out :
-    (t : ℕ) →
-    decimal-at-lts.Need-add-out
-    (decimal-at-below t, decimal-at.Post)
-    (decimal-at-at t)
-    decimal-at.Post
-decimal-at-add-out t c = search needs
-
 decimal-at-slice-write-out : (t : ℕ) → decimal-at-lts.Need-slice-write-out (
   decimal-at-below t,
   decimal-at.Post,
@@ -49,18 +33,6 @@ decimal-at-slice-write-out : (t : ℕ) → decimal-at-lts.Need-slice-write-out (
 decimal-at-slice-write-out t c =
     let a = c .before .before .args in
     omega (arith, length-small (a .v) (a .out .now) (a .to) (c .if1 .taken))
-
-decimal-at-add-result : (t : ℕ) → decimal-at-lts.Need-add-result (
-  decimal-at-below t,
-  decimal-at.Post,
-) (decimal-at-at t) decimal-at.Post
-decimal-at-add-result t c = search needs
-
-decimal-at-same-length : (t : ℕ) → decimal-at-lts.Need-same-length (
-  decimal-at-below t,
-  decimal-at.Post,
-) (decimal-at-at t) decimal-at.Post
-decimal-at-same-length t c = search needs
 
 decimal-at-returns :
     (t : ℕ) →
@@ -82,18 +54,6 @@ decimal-at-decimal-at-requires : (t : ℕ) → decimal-at-lts.Need-decimal-at-re
 decimal-at-decimal-at-requires t c κs =
     let a = c .before .before .before .args in
     (omega arith, omega (arith, length-step (a .v) (a .out .now) (a .to) (c .before .if1 .left)))
-
-decimal-at-cast-out-2 : (t : ℕ) → decimal-at-lts.Need-cast-out-2 (
-  decimal-at-below t,
-  decimal-at.Post,
-) (decimal-at-at t) decimal-at.Post
-decimal-at-cast-out-2 t c = search needs
-
-decimal-at-add-out-2 : (t : ℕ) → decimal-at-lts.Need-add-out-2 (
-  decimal-at-below t,
-  decimal-at.Post,
-) (decimal-at-at t) decimal-at.Post
-decimal-at-add-out-2 t c = search needs
 
 decimal-at-slice-write-out-2 : (t : ℕ) → decimal-at-lts.Need-slice-write-out-2 (
   decimal-at-below t,
@@ -120,12 +80,6 @@ decimal-at-add-result-2 t c =
     let h = d .before .before .if1 .left in
     record { fits = omega (arith, length-step (a .v) (a .out .now) (a .to) h, d .decimal-at .ensures .place) }
 
-decimal-at-same-length-2 : (t : ℕ) → decimal-at-lts.Need-same-length-2 (
-  decimal-at-below t,
-  decimal-at.Post,
-) (decimal-at-at t) decimal-at.Post
-decimal-at-same-length-2 t c = search needs
-
 decimal-at-returns-2 : (t : ℕ) → decimal-at-lts.Need-returns-2 (
   decimal-at-below t,
   decimal-at.Post,
@@ -148,16 +102,16 @@ pub +decimal-at-spec : {M : Type 1} → statement M
 )
     (decimal-at-at t)
     decimal-at.Post
-    (decimal-at-cast-out t)
-    (decimal-at-add-out t)
+    (λ c. search needs)
+    (λ c. search needs)
     (decimal-at-slice-write-out t)
-    (decimal-at-add-result t)
-    (decimal-at-same-length t)
+    (λ c. search needs)
+    (λ c. search needs)
     (decimal-at-returns t)
     (decimal-at-decimal-at-requires t)
-    (decimal-at-cast-out-2 t)
-    (decimal-at-add-out-2 t)
+    (λ c. search needs)
+    (λ c. search needs)
     (decimal-at-slice-write-out-2 t)
     (decimal-at-add-result-2 t)
-    (decimal-at-same-length-2 t)
+    (λ c. search needs)
     (decimal-at-returns-2 t)

@@ -32,9 +32,6 @@ add-result c =
     let s = d .before .before .before in
     record { fits = omega (arith, twenty (s .args .v) (s .fits .v .fits), d .decimal-at .ensures .place) }
 
-same-length : tie.Need-same-length
-same-length c = search needs
-
 returns : tie.Need-returns
 returns c =
     let d = c .before .before in
@@ -48,4 +45,4 @@ returns c =
 
 pub number-line-at-spec : {M : Type 1} → statement M
 number-line-at-spec =
-    tie.close (tie.spec decimal-at-requires slice-write-out add-result same-length returns)
+    tie.close (tie.spec decimal-at-requires slice-write-out add-result (λ c. search needs) returns)

@@ -1,132 +1,120 @@
--- `parse` follows `parseLine` through its four numbers: each call of `field` says what is read there.
-use mathlib.Core.Path.{_≡_, _∙_}
-use mathlib.Core.List.{List}
-use Prim.Native.Nat.{ℕ}
+-- `parse` reads number by number. Invariant: what is stored, with the numbers still to be read, are all the numbers of the
+-- line, and the line is whole exactly where the rest of it is.
 use borrow.Author.Needs.{needs}
-use lib.ListN.{length, drop}
-use Rattle.lines.specs.Input.{number, read}
-use Rattle.lines.proofs.InputLaws.{found-number, found-missing, parse-none, parse-one, parse-two, parse-three, parse-four, whole-past, whole-more}
+use native.Mathlib.Omega.{arith}
+use native.Mathlib.Numerals.{add-one}
+use mathlib.Core.Path.{_≡_, refl, sym, ap, _∙_}
+use mathlib.Core.Bool.{false}
+use mathlib.Core.List.{List}
+use Prim.Native.Nat.{ℕ, suc, _+_, _-_, _<_, _≤_}
+use lib.Dec.{leb}
+use lib.ListN.{length, drop, set, length-set, drop-of-length-le}
+use lib.Seq.{sets, drop-cons}
+use borrow.Author.Tests.{le-leb, lt-leb}
+use Rattle.base.proofs.Cases.{by-order}
+use Rattle.lines.specs.Input.{closing}
+use Rattle.lines.specs.Parsing.{numeral, missing, read, numbersIn, wholeLine}
+use Rattle.lines.proofs.InputLaws.{found-number, found-missing, numbers-found, numbers-missing, line-found, line-missing}
 use Rattle.lines.proofs.parse.Statement.{statement}
 use Rattle.lines.proofs.parse.Tie as tie
 
-abbrev input1 : tie.After-known-told → List ℕ
-input1 p = p .before .before .before .before .before .args .input .now
+record Read (input out₀ out : List ℕ) (at i : ℕ) : Type 0 where
+  size : length out ≡ length out₀
+  within : i ≤ length out₀
+  numbers : sets out i (numbersIn (length out₀ - i) (drop at input)) ≡ sets out₀ 0 (numbersIn (length out₀) input)
+  whole : wholeLine (length out₀ - i) (drop at input) ≡ wholeLine (length out₀) input
 
-first : (p : tie.After-known-told) → read 32 (input1 p) ≡ number (p .before .generator .given .0 .0) (drop (p .before .generator .given .0 .1 .0) (input1 p))
-first p = found-number (input1 p) (p .before .before .before .field .ensures) (p .before .generator .given .1)
+module _ (input out₀ out : List ℕ) (at i : ℕ) (r : Read input out₀ out at i) where
+  -- a number more is stored
+  stores : (v next : ℕ) → i < length out₀ → read (closing (length out - i - 1)) (drop at input) ≡ numeral v (drop next input) → Read input out₀ (set out i v) next (i + 1)
+  stores v next h e₀ =
+      let e = rw (r .size) at e₀ in
+      let more : length out₀ - i ≡ suc (length out₀ - i - 1) = omega arith in
+      let less : length out₀ - (i + 1) ≡ length out₀ - i - 1 = omega arith in
+      record {
+        size = length-set out i v ∙ r .size;
+        within = omega arith;
+        numbers =
+            rw (less, add-one)
+            (ap (λ (ns : List ℕ). sets out i ns) (sym (numbers-found (length out₀ - i - 1) (drop at input) v (drop next input) e))
+            ∙ (rw more at (r .numbers)));
+        whole = rw less (sym (line-found (length out₀ - i - 1) (drop at input) v (drop next input) e) ∙ (rw more at (r .whole)));
+      }
 
-second : (q : tie.After-known-told2) → let p = q .before .before .before .before in
-    read 32 (drop (p .before .generator .given .0 .1 .0) (input1 p)) ≡ number (q .before .length .given .0 .0) (drop (q .before .length .given .0 .1 .0) (input1 p))
-second q =
-    let p = q .before .before .before .before in
-    found-number (input1 p) (q .before .before .before .field2 .ensures) (q .before .length .given .1)
+  -- there is no further number
+  misses : i < length out₀ → read (closing (length out - i - 1)) (drop at input) ≡ missing
+      → (false ≡ wholeLine (length out₀) input) × (out ≡ sets out₀ 0 (numbersIn (length out₀) input))
+  misses h e₀ =
+      let e = rw (r .size) at e₀ in
+      let more : length out₀ - i ≡ suc (length out₀ - i - 1) = omega arith in (
+        sym (line-missing (length out₀ - i - 1) (drop at input) e) ∙ (rw more at (r .whole)),
+        ap (λ (ns : List ℕ). sets out i ns) (sym (numbers-missing (length out₀ - i - 1) (drop at input) e)) ∙ (rw more at (r .numbers)),
+      )
 
-third : (r : tie.After-known-told3) → let q = r .before .before .before .before in let p = q .before .before .before .before in
-    read 32 (drop (q .before .length .given .0 .1 .0) (input1 p)) ≡ number (r .before .limit .given .0 .0) (drop (r .before .limit .given .0 .1 .0) (input1 p))
-third r =
-    let p = r .before .before .before .before .before .before .before .before in
-    found-number (input1 p) (r .before .before .before .field3 .ensures) (r .before .limit .given .1)
+  -- all numbers are stored, and the line is whole where nothing follows
+  ends : length out₀ ≤ i → (leb (length input) at ≡ wholeLine (length out₀) input) × (out ≡ sets out₀ 0 (numbersIn (length out₀) input))
+  unfolding wholeLine numbersIn
+  ends h =
+      let none : length out₀ - i ≡ 0 = omega (arith, r .within) in
+      (past ∙ (rw none at (r .whole)), rw none at (r .numbers))
+    where
+      past : leb (length input) at ≡ wholeLine 0 (drop at input)
+      past =
+          by-order at (length input)
+          (λ l. rw (lt-leb (length input) at l, drop-cons input at 0 l))
+          (λ l. rw (le-leb (length input) at l, drop-of-length-le input l))
 
-fourth : (t : tie.After-known-told4) → let r = t .before .before .before .before in let p = r .before .before .before .before .before .before .before .before in
-    read 10 (drop (r .before .limit .given .0 .1 .0) (input1 p)) ≡ number (t .before .syndrome .given .0 .0) (drop (t .before .syndrome .given .0 .1 .0) (input1 p))
-fourth t =
-    let p = t .before .before .before .before .before .before .before .before .before .before .before .before in
-    found-number (input1 p) (t .before .before .before .field4 .ensures) (t .before .syndrome .given .1)
+abbrev Inv-loop : tie.InvT-loop
+Inv-loop input out₀ at₀ i₀ out at i = Read input out₀ out at i
 
-field-requires : tie.Need-field-requires
-field-requires c κs = search needs
+abbrev μ-loop : tie.MeasureT-loop
+μ-loop input out₀ at₀ i₀ out at i = length out₀ - i
 
-enum-known-generator : tie.Need-enum-known-generator
-enum-known-generator c = search needs
+loop-holds : tie.Need-loop-holds Inv-loop μ-loop
+loop-holds c =
+    let a = c .before .before .args in
+    let n : length (a .out .now) - 0 ≡ length (a .out .now) = omega arith in
+    record { size = refl; within = omega arith; numbers = rw n; whole = rw n }
 
-enum-told : tie.Need-enum-told
-enum-told c = search needs
-
-returns : tie.Need-returns
+returns : tie.Need-returns Inv-loop μ-loop
 returns c =
-    let i = c .before .before .before .before .args .input .now in
-    parse-none i (found-missing i (c .before .before .field .ensures) (c .enum-told .given .1))
+    let p = c .before .before .before .before .before in
+    let a = p .before .before .before .args in
+    misses (a .input .now) (a .out .now) (p .loop .out) (p .loop .at) (p .loop .i) (p .loop .inv) (omega arith)
+    (rw (c .before .before .before .closing-byte .ensures) at (found-missing (a .input .now) (c .before .before .number-at .ensures) (c .enum-told .given .1)))
 
-field-requires-2 : tie.Need-field-requires-2
-field-requires-2 c κs = search needs
+loop-again : tie.Need-loop-again Inv-loop μ-loop
+loop-again c =
+    let p = c .before .before .before .before .before .before in
+    let a = p .before .before .before .args in
+    stores (a .input .now) (a .out .now) (p .loop .out) (p .loop .at) (p .loop .i) (p .loop .inv) _ _ (omega arith)
+    (rw (c .before .before .before .before .closing-byte .ensures) at (found-number (a .input .now) (c .before .before .before .number-at .ensures) (c .before .value .given .1)))
 
-enum-known-length : tie.Need-enum-known-length
-enum-known-length c = search needs
-
-enum-told-2 : tie.Need-enum-told-2
-enum-told-2 c = search needs
-
-returns-2 : tie.Need-returns-2
+returns-2 : tie.Need-returns-2 Inv-loop μ-loop
 returns-2 c =
-    let p = c .before .before .before in
-    parse-one (input1 p) (first p) (found-missing (input1 p) (c .before .before .field2 .ensures) (c .enum-told2 .given .1))
-
-field-requires-3 : tie.Need-field-requires-3
-field-requires-3 c κs = search needs
-
-enum-known-limit : tie.Need-enum-known-limit
-enum-known-limit c = search needs
-
-enum-told-3 : tie.Need-enum-told-3
-enum-told-3 c = search needs
-
-returns-3 : tie.Need-returns-3
-returns-3 c =
-    let q = c .before .before .before in
-    let p = q .before .before .before .before in
-    parse-two (input1 p) (first p) (second q) (found-missing (input1 p) (c .before .before .field3 .ensures) (c .enum-told3 .given .1))
-
-field-requires-4 : tie.Need-field-requires-4
-field-requires-4 c κs = search needs
-
-enum-known-syndrome : tie.Need-enum-known-syndrome
-enum-known-syndrome c = search needs
-
-enum-told-4 : tie.Need-enum-told-4
-enum-told-4 c = search needs
-
-returns-4 : tie.Need-returns-4
-returns-4 c =
-    let r = c .before .before .before in
-    let q = r .before .before .before .before in
-    let p = q .before .before .before .before in
-    parse-three (input1 p) (first p) (second q) (third r) (found-missing (input1 p) (c .before .before .field4 .ensures) (c .enum-told4 .given .1))
-
-returns-5 : tie.Need-returns-5
-returns-5 c =
-    let t = c .before in
-    let r = t .before .before .before .before in
-    let q = r .before .before .before .before in
-    let p = q .before .before .before .before in
-    whole-more _ _ _ _ (input1 p) _ (c .if1 .taken) ∙ parse-four (input1 p) (first p) (second q) (third r) (fourth t)
-
-returns-6 : tie.Need-returns-6
-returns-6 c =
-    let t = c .before in
-    let r = t .before .before .before .before in
-    let q = r .before .before .before .before in
-    let p = q .before .before .before .before in
-    whole-past _ _ _ _ (input1 p) _ (c .if1 .left) ∙ parse-four (input1 p) (first p) (second q) (third r) (fourth t)
+    let p = c .before in
+    let a = p .before .before .before .args in
+    ends (a .input .now) (a .out .now) (p .loop .out) (p .loop .at) (p .loop .i) (p .loop .inv) (omega arith)
 
 pub parse-spec : {M : Type 1} → statement M
 parse-spec =
     tie.close
     (tie.spec
-    field-requires
-    enum-known-generator
-    enum-told
+    Inv-loop
+    μ-loop
+    loop-holds
+    (λ c. search needs)
+    (λ c. search needs)
+    (λ c κs. search needs)
+    (λ c κs. search needs)
+    (λ c. search needs)
+    (λ c. search needs)
+    (λ c. search needs)
     returns
-    field-requires-2
-    enum-known-length
-    enum-told-2
-    returns-2
-    field-requires-3
-    enum-known-limit
-    enum-told-3
-    returns-3
-    field-requires-4
-    enum-known-syndrome
-    enum-told-4
-    returns-4
-    returns-5
-    returns-6)
+    (λ c. search needs)
+    (λ c. search needs)
+    (λ c. search needs)
+    (λ c. search needs)
+    loop-again
+    (λ c. search needs)
+    returns-2)

@@ -5,16 +5,14 @@ use Prim.Native.Nat.{ℕ, _+_, _-_, _*_, _≤_}
 use borrow.Author.Needs.{needs}
 use lib.ListN.{length, getD, drop, length-set}
 use Rattle.lines.specs.Decimal.{decimal}
-use Rattle.lines.specs.Text.{spaced, positionsIn}
+use Rattle.lines.specs.Text.{spaced}
+use Rattle.patterns.specs.Records.{positionsIn}
 use Rattle.lines.proofs.DecimalLaws.{decimal-length}
 use Rattle.lines.proofs.RecordLaws.{spaced-step, spaced-none}
 use Rattle.lines.proofs.WritingLaws.{Writing, writing-start, writing-byte, writing-part, writing-stored}
 use native.Mathlib.Omega.{arith}
 use Rattle.lines.proofs.positions_at.Statement.{statement}
 use Rattle.lines.proofs.positions_at.Tie as tie
-use Rattle.lines.proofs.positions_at.Reads as reads
-use Rattle.lines.proofs.positions_at.Lts as lts
-use Rattle.lines.proofs.decimal_at.Reads as decimal-at-reads
 
 abbrev Inv-loop : tie.InvT-loop
 Inv-loop page at count out₀ to from₀ next₀ left₀ out from next left =
@@ -39,23 +37,11 @@ loop-holds c =
     let a = c .before .before .args in
     (search needs, omega arith, writing-start (a .out .now) (a .to) _)
 
-shared-slice-read-high : tie.Need-shared-slice-read-high Inv-loop μ-loop
-shared-slice-read-high c = search needs
-
 cast-high : tie.Need-cast-high Inv-loop μ-loop
 cast-high c = omega (arith, c .shared-slice-known2 .given (c .before .before .loop .from))
 
-add-low : tie.Need-add-low Inv-loop μ-loop
-add-low c = search needs
-
-shared-slice-read-low : tie.Need-shared-slice-read-low Inv-loop μ-loop
-shared-slice-read-low c = search needs
-
 cast-low : tie.Need-cast-low Inv-loop μ-loop
 cast-low c = omega (arith, c .shared-slice-known3 .given (c .before .before .before .loop .from + 1))
-
-slice-write-out : tie.Need-slice-write-out Inv-loop μ-loop
-slice-write-out c = search needs
 
 mul-decimal-at : tie.Need-mul-decimal-at Inv-loop μ-loop
 mul-decimal-at c = record { fits = omega (arith, c .shared-slice-known3 .given (c .before .before .before .loop .from + 1), c .before .shared-slice-known2 .given (c .before .before .before .loop .from)) }
@@ -63,21 +49,9 @@ mul-decimal-at c = record { fits = omega (arith, c .shared-slice-known3 .given (
 add-decimal-at : tie.Need-add-decimal-at Inv-loop μ-loop
 add-decimal-at c = record { fits = omega (arith, c .shared-slice-known3 .given (c .before .before .before .loop .from + 1), c .before .shared-slice-known2 .given (c .before .before .before .loop .from)) }
 
-add-decimal-at-2 : tie.Need-add-decimal-at-2 Inv-loop μ-loop
-add-decimal-at-2 c = search needs
-
 decimal-at-requires : tie.Need-decimal-at-requires Inv-loop μ-loop
 decimal-at-requires c κs =
     simp length-set (omega (arith, short (c .before), c .before .before .before .before .loop .inv .2 .size))
-
-add-from : tie.Need-add-from Inv-loop μ-loop
-add-from c = search needs
-
-sub-left : tie.Need-sub-left Inv-loop μ-loop
-sub-left c = search needs
-
-loop-less : tie.Need-loop-less Inv-loop μ-loop
-loop-less c = search needs
 
 loop-again : tie.Need-loop-again Inv-loop μ-loop
 loop-again c =
@@ -106,19 +80,19 @@ positions-at-spec =
     Inv-loop
     μ-loop
     loop-holds
-    shared-slice-read-high
+    (λ c. search needs)
     cast-high
-    add-low
-    shared-slice-read-low
+    (λ c. search needs)
+    (λ c. search needs)
     cast-low
-    slice-write-out
+    (λ c. search needs)
     mul-decimal-at
     add-decimal-at
-    add-decimal-at-2
+    (λ c. search needs)
     decimal-at-requires
-    add-from
-    sub-left
-    loop-less
+    (λ c. search needs)
+    (λ c. search needs)
+    (λ c. search needs)
     loop-again
     same-length
     returns)

@@ -6,7 +6,7 @@ use Prim.Native.Nat.{ℕ, suc, _-_, _%_, _≤_}
 use native.Mathlib.Omega.{arith}
 use borrow.Author.Needs.{needs}
 use lib.Bits.{bitXor, xor-zero-r}
-use lib.ListN.{length, take, drop, getD, set, length-set, take-append-drop}
+use lib.ListN.{length, take, drop, getD, length-set, take-append-drop}
 use lib.Seq.{take-length, drop-length, take-set-le, take-take}
 use Rattle.packet.specs.Packet.{Bytes, polynomial, bytes}
 use Rattle.packet.proofs.PacketLaws.{bytes-take, add-low-step}
@@ -55,21 +55,6 @@ same-length c = c .before .before .loop .inv .long
 returns : tie.Need-returns Inv-loop μ-loop
 returns c = added (c .before .before .before .pre) (rw (c .if1 .taken) at (c .before .before .loop .inv))
 
-sub-i : tie.Need-sub-i Inv-loop μ-loop
-sub-i c = omega arith
-
-slice-read-packet : tie.Need-slice-read-packet Inv-loop μ-loop
-slice-read-packet c = omega arith
-
-cast-packet : tie.Need-cast-packet Inv-loop μ-loop
-cast-packet c = search needs
-
-slice-write-packet : tie.Need-slice-write-packet Inv-loop μ-loop
-slice-write-packet c = omega arith
-
-loop-less : tie.Need-loop-less Inv-loop μ-loop
-loop-less c = omega arith
-
 loop-again : tie.Need-loop-again Inv-loop μ-loop
 loop-again c =
     let s = c .before .before .before in
@@ -108,11 +93,11 @@ add-low-spec =
     loop-holds
     same-length
     returns
-    sub-i
-    slice-read-packet
-    cast-packet
-    slice-write-packet
-    loop-less
+    (λ c. omega arith)
+    (λ c. omega arith)
+    (λ c. search needs)
+    (λ c. omega arith)
+    (λ c. omega arith)
     loop-again
     same-length-2
     returns-2)

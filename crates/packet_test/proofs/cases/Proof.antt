@@ -18,12 +18,6 @@ loop-holds c = tt
 case-requires : tie.Need-case-requires Inv-loop μ-loop
 case-requires c κs = tt
 
-sub-left : tie.Need-sub-left Inv-loop μ-loop
-sub-left c = omega arith
-
-loop-less : tie.Need-loop-less Inv-loop μ-loop
-loop-less c = omega arith
-
 loop-again : tie.Need-loop-again Inv-loop μ-loop
 loop-again c = tt
 
@@ -39,7 +33,7 @@ cases-spec =
     number-requires
     loop-holds
     case-requires
-    sub-left
-    loop-less
+    (λ c. omega arith)
+    (λ c. omega arith)
     loop-again
     returns)

@@ -6,30 +6,26 @@ use native.Mathlib.Omega.{arith}
 use borrow.Author.Needs.{needs}
 use lib.ListN.{length, take}
 use lib.Seq.{length-take-le}
-use Rattle.tables.specs.Tables.{power}
 use Rattle.patterns.proofs.PageLaws.{record-length}
-use Rattle.pages.specs.Filling.{searched, aheadOf}
-use Rattle.pages.proofs.SearchLaws.{told-from}
+use Rattle.cursor.specs.Cursors.{listedBy, aheadOf}
+use Rattle.cursor.proofs.AheadLaws.{told-from}
 use Rattle.pages.proofs.FillLaws.{Filling, filling-none, filling-more, filled-page, filled-bytes, stopped-page, stopped-bytes, found-within, fits-room}
 use Rattle.pages.proofs.fill.Statement.{statement}
 use Rattle.pages.proofs.fill.Tie as tie
 
 abbrev Inv-loop : tie.InvT-loop
-Inv-loop g pow first period syndrome pos₀ output₀ ahead₀ last₀ used₀ written₀ pos output ahead last used written =
-    Filling (length pow) (length pos₀) (searched g pow (length pos₀) syndrome) (aheadOf (searched g pow (length pos₀) syndrome) ahead₀ pos₀)
+Inv-loop cursor pow first pos₀ output₀ ahead₀ last₀ used₀ written₀ pos output ahead last used written =
+    Filling (length pow) (length pos₀) (listedBy cursor (length pow) (length pos₀)) (aheadOf (listedBy cursor (length pow) (length pos₀)) ahead₀ pos₀)
     output₀ pos output ahead last used written
 
 abbrev μ-loop : tie.MeasureT-loop
-μ-loop g pow first period syndrome pos₀ output₀ ahead₀ last₀ used₀ written₀ pos output ahead last used written =
+μ-loop cursor pow first pos₀ output₀ ahead₀ last₀ used₀ written₀ pos output ahead last used written =
     length output₀ - used
 
 loop-holds : tie.Need-loop-holds Inv-loop μ-loop
 loop-holds c =
     let s = c .before .before .before .before in
     filling-none _ _ _ _ _ _ (s .pre .1 .0) refl
-
-enum-told : tie.Need-enum-told Inv-loop μ-loop
-enum-told c = search needs
 
 same-length : tie.Need-same-length Inv-loop μ-loop
 same-length c = c .before .before .loop .inv .placed
@@ -39,12 +35,6 @@ same-length-2 c = c .before .before .loop .inv .long
 
 returns : tie.Need-returns Inv-loop μ-loop
 returns c = (filled-page (c .before .before .loop .inv) (c .enum-told .given .1), filled-bytes (c .before .before .loop .inv) (c .enum-told .given .1))
-
-enum-known-ahead : tie.Need-enum-known-ahead Inv-loop μ-loop
-enum-known-ahead c = search needs
-
-sub-if1 : tie.Need-sub-if1 Inv-loop μ-loop
-sub-if1 c = omega arith
 
 -- the positions found lie in the slice
 within : (c : tie.After-known-told Inv-loop μ-loop) → c .before .ahead .given .0 .0 ≤ length (c .before .before .before .loop .pos)
@@ -73,9 +63,6 @@ slice-reshare-prefix-from-positions c = omega (arith, within (c .before))
 
 slice-aggregate-from-positions : tie.Need-slice-aggregate-from-positions Inv-loop μ-loop
 slice-aggregate-from-positions c = sym (length-take-le _ _ (omega (arith, within (c .before .before))))
-
-from-positions-requires : tie.Need-from-positions-requires Inv-loop μ-loop
-from-positions-requires c κs = search needs
 
 slice-reshare-prefix-put-record : tie.Need-slice-reshare-prefix-put-record Inv-loop μ-loop
 slice-reshare-prefix-put-record c = omega (arith, within (c .before .before .before))
@@ -111,14 +98,14 @@ loop-again c =
     let f = p .loop .inv in
     let k = c .before .before .before .before .before .before .before .before .before .before .before .before .before .ahead .given .0 .0 in
     let a = c .before .before in
-    let l : length (a .advance .last .1 .1 .1 .1 .1 .0) ≡ length (p .loop .pos) = search needs in
+    let l : length (a .advance .last .1 .1 .1 .0) ≡ length (p .loop .pos) = search needs in
     let o : length (c .before .before .before .before .before .before .put-record .last .1 .0) ≡ length (p .loop .output) = search needs in
     filling-more f (c .before .before .before .before .before .before .before .before .before .before .before .before .before .ahead .given .1) (omega (arith, c .before .before .before .before .before .before .before .before .before .before .before .if1 .left, f .long)) (s .pre .1 .1)
     (c .before .before .before .before .before .before .before .before .before .from-positions .result) (c .before .before .before .before .before .before .before .before .before .from-positions .ensures)
-    (c .before .before .before .before .before .before .put-record .result) (c .before .before .before .before .before .before .put-record .last .1 .0) (a .advance .last .1 .1 .1 .1 .1 .0) (c .before .before .before .before .before .before .put-record .ensures)
+    (c .before .before .before .before .before .before .put-record .result) (c .before .before .before .before .before .before .put-record .last .1 .0) (a .advance .last .1 .1 .1 .0) (c .before .before .before .before .before .before .put-record .ensures)
     (a .advance .result)
-    (told-from (power (s .args .g .degree) (s .args .g .bits)) (length (s .args .pow .now)) (s .args .syndrome)
-    (a .advance .result) (a .advance .last .1 .1 .1 .1 .1 .0) (f .placed) refl (a .advance .ensures))
+    (told-from (s .args .cursor .generator .degree) (s .args .cursor .generator .coefficients) (length (s .args .pow .now)) (s .args .cursor .syndrome)
+    (a .advance .result) (a .advance .last .1 .1 .1 .0) (f .placed) refl (a .advance .ensures))
     (l ∙ f .placed) (o ∙ f .long)
 
 pub fill-spec : {M : Type 1} → statement M
@@ -128,12 +115,12 @@ fill-spec =
     Inv-loop
     μ-loop
     loop-holds
-    enum-told
+    (λ c. search needs)
     same-length
     same-length-2
     returns
-    enum-known-ahead
-    sub-if1
+    (λ c. search needs)
+    (λ c. omega arith)
     mul-if1
     add-if1
     same-length-3
@@ -141,7 +128,7 @@ fill-spec =
     returns-2
     slice-reshare-prefix-from-positions
     slice-aggregate-from-positions
-    from-positions-requires
+    (λ c κs. search needs)
     slice-reshare-prefix-put-record
     slice-aggregate-put-record
     put-record-requires

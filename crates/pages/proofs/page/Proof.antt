@@ -1,102 +1,96 @@
--- `page` answers by conditions 1 to 8, and else with the page of what follows the mark.
+-- `page` answers by conditions 1 to 8 and then leaves the output alone; else it is the page of what follows the mark.
 use mathlib.Core.Path.{sym, ap, _∙_}
 use mathlib.Core.List.{List}
 use Prim.Native.Nat.{ℕ}
 use borrow.Author.Needs.{needs}
 use lib.ListN.{length}
-use Rattle.base.specs.Outcome.{Condition, refused, accepted, judge}
+use Rattle.base.specs.Outcome.{Condition, refused, accepted}
+use Rattle.base.proofs.JudgeLaws.{turned-down, let-through, none-applies}
 use Rattle.poly.specs.Polynomial.{degree}
-use Rattle.poly.specs.Generators.{generatorOf}
 use Rattle.poly.specs.declared.Generator.{Generator}
-use Rattle.packet.proofs.AdmitLaws.{admitted-refused, admitted-made}
+use Rattle.poly.proofs.GeneratorLaws.{fit-accepted}
+use Rattle.packet.proofs.PacketLaws.{fit-length}
+use Rattle.tables.proofs.TableLaws.{right-unless-wrong}
 use Rattle.patterns.specs.Patterns.{placeOf}
 use Rattle.patterns.specs.Listing.{listing}
 use Rattle.patterns.specs.Marks.{remaining}
 use Rattle.patterns.specs.Pages.{pageOf, pageBytes}
-use Rattle.pages.specs.Conditions.{laterConditions}
-use Rattle.pages.proofs.CallLaws.{admitted-fit, listable, later-refused, later-passed}
+use Rattle.patterns.proofs.MarkLaws.{fit-limit, fit-syndrome}
+use Rattle.cursor.proofs.AheadLaws.{fit-mark}
+use Rattle.pages.specs.Conditions.{Request, pageRequest, pageConditions}
 use Rattle.pages.proofs.page.Statement.{statement}
 use Rattle.pages.proofs.page.Tie as tie
 
-admit-bits-requires : tie.Need-admit-bits-requires
-admit-bits-requires c κs = search needs
+abbrev request : tie.Start → Request
+request s =
+    let a = s .args in
+    pageRequest (a .generator) (a .bits) (a .limit) (a .syndrome) (a .steps .now) (a .firsts .now) (a .output .now)
 
-enum-known-made : tie.Need-enum-known-made
-enum-known-made c = search needs
+abbrev conditions : tie.Start → List Condition
+conditions s = pageConditions (request s) (placeOf (s .args .mark))
 
-enum-known-made-2 : tie.Need-enum-known-made-2
-enum-known-made-2 c = search needs
-
-judge-page-requires : tie.Need-judge-page-requires
-judge-page-requires c κs =
-    let a = (c .before .before .before .before .before .before .before) .args in
-    admitted-fit (admitted-made (a .generator) (a .bits) ((c .before .before .before) .admit-bits .ensures) ((c .before) .made2 .given .1))
-
-enum-known-judged : tie.Need-enum-known-judged
-enum-known-judged c = search needs
-
-enum-told : tie.Need-enum-told
-enum-told c = search needs
+-- what follows the mark, for the list of a generator
+abbrev follow : tie.Start → Generator → List (List ℕ)
+follow s g = remaining (listing (g .degree) (g .coefficients) (s .args .bits) (s .args .limit) (s .args .syndrome)) (placeOf (s .args .mark))
 
 list-page-requires : tie.Need-list-page-requires
 list-page-requires c κs =
-    let a = (c .before .before .before .before .before .before .before .before .before .before .before) .args in
-    listable (admitted-made (a .generator) (a .bits) ((c .before .before .before .before .before .before .before) .admit-bits .ensures) ((c .before .before .before .before .before) .made2 .given .1)) (a .limit) (a .syndrome) (a .steps .now) (a .firsts .now)
-    (placeOf (a .mark)) (length (a .output .now)) ((c .before .before .before) .judge-page .ensures) ((c .before) .enum-told .given .1)
+    let o = c .before in
+    let j = o .before .before .before in
+    let s = j .before .before .before .before .before in
+    let a = s .args in
+    let n : ℕ = degree (a .generator) in
+    let clear = none-applies (conditions s) (j .judge-page .ensures) (o .before .enum-told .given .1) in
+    let right = right-unless-wrong n (a .generator) (a .steps .now) (a .firsts .now) (clear 6) in
+    rw (o .of .ensures) (
+      record {
+        fit = fit-accepted (a .generator) (clear 1);
+        short = fit-length n (a .bits) (clear 2) .1;
+        within = fit-syndrome n (a .syndrome) (clear 4);
+        rightSteps = right .0;
+        rightFirsts = right .1;
+      },
+      (fit-mark (a .bits) (a .limit) (placeOf (a .mark)) (clear 7), fit-limit (a .limit) (clear 3)),
+    )
 
 returns : tie.Need-returns
 returns c =
-    let a = (c .before .before .before .before .before .before .before) .args in
-    let later : Generator → List Condition =
-    λ w. laterConditions (w .degree) (w .bits) (a .bits) (a .limit) (a .syndrome) (a .steps .now) (a .firsts .now) (placeOf (a .mark)) (length (a .output .now)) in
-    let rest : List (List ℕ) = remaining (listing (degree (a .generator)) (a .generator) (a .bits) (a .limit) (a .syndrome)) (placeOf (a .mark)) in
-    let page = pageOf rest (length (a .output .now)) in
-    let bytes : List ℕ = pageBytes rest (a .output .now) in (
-      sym (admitted-refused (a .generator) (a .bits) ((c .before .before .before) .admit-bits .ensures) ((c .before) .made .given .1) refused (judge (later (generatorOf (a .generator))) refused (accepted page))),
-      sym (admitted-refused (a .generator) (a .bits) ((c .before .before .before) .admit-bits .ensures) ((c .before) .made .given .1) (λ _. a .output .now) (judge (later (generatorOf (a .generator))) (λ _. a .output .now) bytes)),
+    let j = c .before .before .before in
+    let s = j .before .before .before .before .before in
+    let out = s .args .output .now in
+    let rest : List (List ℕ) = follow s (record { coefficients = s .args .generator; degree = degree (s .args .generator) }) in
+    let h = c .before .judged .given .1 in (
+      sym (turned-down (conditions s) (j .judge-page .ensures) h refused (accepted (pageOf rest (length out)))),
+      sym (turned-down (conditions s) (j .judge-page .ensures) h (λ _. out) (pageBytes rest out)),
     )
 
 returns-2 : tie.Need-returns-2
 returns-2 c =
-    let a = (c .before .before .before .before .before .before .before .before .before .before .before) .args in
-    let later : Generator → List Condition =
-    λ w. laterConditions (w .degree) (w .bits) (a .bits) (a .limit) (a .syndrome) (a .steps .now) (a .firsts .now) (placeOf (a .mark)) (length (a .output .now)) in
-    let rest : List (List ℕ) = remaining (listing (degree (a .generator)) (a .generator) (a .bits) (a .limit) (a .syndrome)) (placeOf (a .mark)) in
-    let page = pageOf rest (length (a .output .now)) in
-    let bytes : List ℕ = pageBytes rest (a .output .now) in
-    (sym (later-refused (a .generator) (a .bits) later ((c .before .before .before .before .before .before .before) .admit-bits .ensures) ((c .before .before .before .before .before) .made2 .given .1) ((c .before .before .before) .judge-page .ensures) ((c .before) .judged .given .1) refused (accepted page)), sym (later-refused (a .generator) (a .bits) later ((c .before .before .before .before .before .before .before) .admit-bits .ensures) ((c .before .before .before .before .before) .made2 .given .1) ((c .before .before .before) .judge-page .ensures) ((c .before) .judged .given .1) (λ _. a .output .now) bytes))
-
-same-length : tie.Need-same-length
-same-length c = search needs
-
-returns-3 : tie.Need-returns-3
-returns-3 c =
-    let a = (c .before .before .before .before .before .before .before .before .before .before .before .before .before .before) .args in
-    let later : Generator → List Condition =
-    λ w. laterConditions (w .degree) (w .bits) (a .bits) (a .limit) (a .syndrome) (a .steps .now) (a .firsts .now) (placeOf (a .mark)) (length (a .output .now)) in
-    let rest : List (List ℕ) = remaining (listing (degree (a .generator)) (a .generator) (a .bits) (a .limit) (a .syndrome)) (placeOf (a .mark)) in
-    let page = pageOf rest (length (a .output .now)) in
-    let bytes : List ℕ = pageBytes rest (a .output .now) in
-    let e = (c .before .before .before .before .before .before .before .before .before .before) .admit-bits .ensures in
-    let m = (c .before .before .before .before .before .before .before .before) .made2 .given .1 in
-    let made = sym (admitted-made (a .generator) (a .bits) e m .made) in
-    let listed : Generator → List (List ℕ) = λ w. remaining (listing (w .degree) (w .bits) (a .bits) (a .limit) (a .syndrome)) (placeOf (a .mark)) in (
-      ap accepted ((c .before .before) .list-page .ensures .0 ∙ ap (λ (w : Generator). pageOf (listed w) (length (a .output .now))) made) ∙ sym (later-passed (a .generator) (a .bits) later e m ((c .before .before .before .before .before .before) .judge-page .ensures) ((c .before .before .before .before) .enum-told .given .1) refused (accepted page)),
-      ((c .before .before) .list-page .ensures .1 ∙ ap (λ (w : Generator). pageBytes (listed w) (a .output .now)) made) ∙ sym (later-passed (a .generator) (a .bits) later e m ((c .before .before .before .before .before .before) .judge-page .ensures) ((c .before .before .before .before) .enum-told .given .1) (λ _. a .output .now) bytes),
+    let f = c .before .before in
+    let o = f .before .before in
+    let j = o .before .before .before in
+    let s = j .before .before .before .before .before in
+    let out = s .args .output .now in
+    let rest : List (List ℕ) = follow s (record { coefficients = s .args .generator; degree = degree (s .args .generator) }) in
+    let e = j .judge-page .ensures in
+    let h = o .before .enum-told .given .1 in (
+      ap accepted (f .list-page .ensures .0 ∙ ap (λ (g : Generator). pageOf (follow s g) (length out)) (o .of .ensures))
+          ∙ sym (let-through (conditions s) e h refused (accepted (pageOf rest (length out)))),
+      f .list-page .ensures .1
+          ∙ ap (λ (g : Generator). pageBytes (follow s g) out) (o .of .ensures)
+          ∙ sym (let-through (conditions s) e h (λ _. out) (pageBytes rest out)),
     )
 
 pub page-spec : {M : Type 1} → statement M
 page-spec =
     tie.close
     (tie.spec
-    admit-bits-requires
-    enum-known-made
-    enum-known-made-2
-    judge-page-requires
-    enum-known-judged
-    enum-told
+    (λ c κs. search needs)
+    (λ c. search needs)
+    (λ c. search needs)
+    (λ c κs. search needs)
     list-page-requires
+    (λ c. search needs)
     returns
-    returns-2
-    same-length
-    returns-3)
+    (λ c. search needs)
+    returns-2)

@@ -18,12 +18,6 @@ abbrev μ-loop : tie.MeasureT-loop
 loop-holds : tie.Need-loop-holds Inv-loop μ-loop
 loop-holds c = refl
 
-mul-p : tie.Need-mul-p Inv-loop μ-loop
-mul-p c = search needs
-
-shared-slice-read-p : tie.Need-shared-slice-read-p Inv-loop μ-loop
-shared-slice-read-p c = search needs
-
 cast-p : tie.Need-cast-p Inv-loop μ-loop
 cast-p c = omega (arith, c .shared-slice-known .given (c .before .before .loop .i))
 
@@ -36,14 +30,8 @@ returns-2 c = sym (ascending-beyond (c .before .before .before .before .before .
 add-from : tie.Need-add-from Inv-loop μ-loop
 add-from c = omega (arith, c .before .before .shared-slice-known .given (c .before .before .before .before .loop .i))
 
-add-i : tie.Need-add-i Inv-loop μ-loop
-add-i c = search needs
-
-loop-less : tie.Need-loop-less Inv-loop μ-loop
-loop-less c = search needs
-
 loop-again : tie.Need-loop-again Inv-loop μ-loop
-loop-again c = ascending-step (c .before .before .before .before .before .args .l) (c .before .before .before .before .loop .from) (c .before .before .before .before .before .args .pos .now) (c .before .before .before .before .loop .i) (omega arith) (omega arith) (omega arith) ∙ c .before .before .before .before .loop .inv
+loop-again c = ascending-step (c .before .before .before .before .before .args .l) (c .before .before .before .before .loop .from) (c .before .before .before .before .before .args .pos .now) (c .before .before .before .before .loop .i) (omega arith) (omega arith) (omega arith) _ (omega arith) ∙ c .before .before .before .before .loop .inv
 
 returns-3 : tie.Need-returns-3 Inv-loop μ-loop
 returns-3 c = sym (ascending-end (c .before .before .args .l) (c .before .loop .from) (c .before .before .args .pos .now) (c .before .loop .i) (omega arith)) ∙ c .before .loop .inv
@@ -55,13 +43,13 @@ ascends-spec =
     Inv-loop
     μ-loop
     loop-holds
-    mul-p
-    shared-slice-read-p
+    (λ c. search needs)
+    (λ c. search needs)
     cast-p
     returns
     returns-2
     add-from
-    add-i
-    loop-less
+    (λ c. search needs)
+    (λ c. search needs)
     loop-again
     returns-3)

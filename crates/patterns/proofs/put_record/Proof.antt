@@ -5,7 +5,7 @@ use mathlib.Core.Path.{_≡_, refl, sym, _∙_}
 use Prim.Native.Nat.{_+_, _*_, _-_, _/_, _%_, _≤_}
 use lib.ListN.{length, drop, getD, set, length-set}
 use lib.Seq.{sets}
-use Rattle.patterns.specs.Pages.{places}
+use Rattle.patterns.specs.Records.{positionBytes}
 use Rattle.patterns.proofs.PageLaws.{record-length}
 use Rattle.patterns.proofs.RecordLaws.{put-turn, put-done, put-whole}
 use Rattle.patterns.proofs.put_record.Statement.{statement}
@@ -13,7 +13,7 @@ use Rattle.patterns.proofs.put_record.Tie as tie
 
 abbrev Inv-loop : tie.InvT-loop
 Inv-loop pos out₀ at n to₀ i₀ out to i =
-    (i ≤ n) × (to ≡ at + 1 + 2 * i) × (length out ≡ length out₀) × (sets out to (places (drop i pos)) ≡ sets out₀ (at + 1) (places pos))
+    (i ≤ n) × (to ≡ at + 1 + 2 * i) × (length out ≡ length out₀) × (sets out to (positionBytes (drop i pos)) ≡ sets out₀ (at + 1) (positionBytes pos))
 
 abbrev μ-loop : tie.MeasureT-loop
 μ-loop pos out₀ at n to₀ i₀ out to i = n - i
@@ -22,35 +22,14 @@ abbrev μ-loop : tie.MeasureT-loop
 long : (c : tie.At-loop Inv-loop μ-loop) → length (c .loop .out) ≡ length (c .before .args .out .now)
 long c = c .loop .inv .2 ∙ length-set (c .before .args .out .now) (c .before .args .at) (length (c .before .args .pos .now))
 
-cast-out : tie.Need-cast-out Inv-loop μ-loop
-cast-out c = omega arith
-
-slice-write-out : tie.Need-slice-write-out Inv-loop μ-loop
-slice-write-out c = omega arith
-
-add-to : tie.Need-add-to Inv-loop μ-loop
-add-to c = omega arith
-
 loop-holds : tie.Need-loop-holds Inv-loop μ-loop
 loop-holds c = (omega arith, omega arith, refl, refl)
-
-mul-p : tie.Need-mul-p Inv-loop μ-loop
-mul-p c = omega arith
-
-shared-slice-read-p : tie.Need-shared-slice-read-p Inv-loop μ-loop
-shared-slice-read-p c = omega arith
 
 cast-out-2 : tie.Need-cast-out-2 Inv-loop μ-loop
 cast-out-2 c = omega (arith, c .shared-slice-known .given (c .before .before .loop .i))
 
 slice-write-out-2 : tie.Need-slice-write-out-2 Inv-loop μ-loop
 slice-write-out-2 c = omega (arith, long (c .before .before))
-
-cast-out-3 : tie.Need-cast-out-3 Inv-loop μ-loop
-cast-out-3 c = omega arith
-
-add-out : tie.Need-add-out Inv-loop μ-loop
-add-out c = omega arith
 
 slice-write-out-3 : tie.Need-slice-write-out-3 Inv-loop μ-loop
 slice-write-out-3 c =
@@ -59,15 +38,6 @@ slice-write-out-3 c =
       long (c .before .before),
       length-set (c .before .before .loop .out) (c .before .before .loop .to) (getD (c .before .before .before .args .pos .now) (c .before .before .loop .i) 0 / 256),
     )
-
-add-to-2 : tie.Need-add-to-2 Inv-loop μ-loop
-add-to-2 c = omega arith
-
-add-i : tie.Need-add-i Inv-loop μ-loop
-add-i c = omega arith
-
-loop-less : tie.Need-loop-less Inv-loop μ-loop
-loop-less c = omega arith
 
 loop-again : tie.Need-loop-again Inv-loop μ-loop
 loop-again c =
@@ -98,20 +68,20 @@ put-record-spec =
     (tie.spec
     Inv-loop
     μ-loop
-    cast-out
-    slice-write-out
-    add-to
+    (λ c. omega arith)
+    (λ c. omega arith)
+    (λ c. omega arith)
     loop-holds
-    mul-p
-    shared-slice-read-p
+    (λ c. omega arith)
+    (λ c. omega arith)
     cast-out-2
     slice-write-out-2
-    cast-out-3
-    add-out
+    (λ c. omega arith)
+    (λ c. omega arith)
     slice-write-out-3
-    add-to-2
-    add-i
-    loop-less
+    (λ c. omega arith)
+    (λ c. omega arith)
+    (λ c. omega arith)
     loop-again
     same-length
     returns)

@@ -1,12 +1,12 @@
 -- `unfit_pattern` is the test of its definition: the count decides where it is too large, else whether the positions ascend.
 use native.Mathlib.Omega.{arith}
-use mathlib.Core.Path.{_≡_, refl, sym}
+use mathlib.Core.Path.{_≡_, sym}
 use Prim.Native.Nat.{_≤_}
 use lib.ListN.{length, take}
 use lib.Seq.{length-take-le}
 use Rattle.patterns.specs.Patterns.{positions}
 use Rattle.patterns.specs.Listing.{ascending}
-use Rattle.patterns.proofs.PositionLaws.{taken-length}
+use Rattle.patterns.proofs.PositionLaws.{positions-most, spread-take, spread-length}
 use Rattle.patterns.proofs.MarkLaws.{many-unfit, few-unfit}
 use borrow.Author.Needs.{needs}
 use Rattle.patterns.proofs.unfit_pattern.Statement.{statement}
@@ -19,13 +19,8 @@ counted c = c .count-of .ensures
 enough : (c : tie.After-count-of) → c .count-of .result ≤ length (c .before .spread .result)
 enough c =
     let p = c .before .before .args .p in
-    rw (counted c) (taken-length (length (positions p)) (c .before .spread .result) (positions p) (c .before .spread .ensures) refl)
-
-spread-requires : tie.Need-spread-requires
-spread-requires c κs = search needs
-
-count-of-requires : tie.Need-count-of-requires
-count-of-requires c κs = search needs
+    let few = positions-most p in
+    omega (arith, counted c, spread-length (positions p) (c .before .spread .result) (c .before .spread .ensures) few)
 
 returns : tie.Need-returns
 returns c =
@@ -39,25 +34,22 @@ slice-aggregate-ascends : tie.Need-slice-aggregate-ascends
 slice-aggregate-ascends c =
     sym (length-take-le (c .before .before .count-of .result) (c .before .before .before .spread .result) (enough (c .before .before)))
 
-ascends-requires : tie.Need-ascends-requires
-ascends-requires c κs = search needs
-
 returns-2 : tie.Need-returns-2
 returns-2 c =
     let start = c .before .before .before .before .before .args in
     let e = counted (c .before .before .before) in
     let a : c .ascends .result ≡ ascending (start .l) 0 (take (c .before .before .before .count-of .result) (c .before .before .before .before .spread .result)) = c .ascends .ensures in
-    let t : take (length (positions (start .p))) (c .before .before .before .before .spread .result) ≡ positions (start .p) = c .before .before .before .before .spread .ensures in
+    let t = spread-take (positions (start .p)) (c .before .before .before .before .spread .result) (c .before .before .before .before .spread .ensures) in
     rw (a, e, t) (sym (few-unfit (start .l) (start .limit) (positions (start .p)) (omega arith)))
 
 pub unfit-pattern-spec : {M : Type 1} → statement M
 unfit-pattern-spec =
     tie.close
     (tie.spec
-    spread-requires
-    count-of-requires
+    (λ c κs. search needs)
+    (λ c κs. search needs)
     returns
     array-share-prefix-held
     slice-aggregate-ascends
-    ascends-requires
+    (λ c κs. search needs)
     returns-2)

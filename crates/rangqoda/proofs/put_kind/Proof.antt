@@ -7,15 +7,6 @@ use lib.ListN.{set, replicate}
 use Rattle.rangqoda.proofs.put_kind.Statement.{statement}
 use Rattle.rangqoda.proofs.put_kind.Tie as tie
 
-clear-requires : tie.Need-clear-requires
-clear-requires c κs = search needs
-
-slice-write-bytes : tie.Need-slice-write-bytes
-slice-write-bytes c = search needs
-
-same-length : tie.Need-same-length
-same-length c = search needs
-
 returns : tie.Need-returns
 returns c =
     let z = c .before .before in
@@ -23,4 +14,4 @@ returns c =
     ap (λ (l : List ℕ). set l 0 (start .args .kind)) (z .clear .ensures ∙ ap (λ (n : ℕ). replicate n 0) (start .pre))
 
 pub put-kind-spec : {M : Type 1} → statement M
-put-kind-spec = tie.close (tie.spec clear-requires slice-write-bytes same-length returns)
+put-kind-spec = tie.close (tie.spec (λ c κs. search needs) (λ c. search needs) (λ c. search needs) returns)

@@ -24,18 +24,6 @@ loop-holds c =
     let b = bytes (length l) (c .args .value) in
     (omega arith, refl, ap (λ (t : List ℕ). b ++ t) (drop-length l) ∙ append-nil b)
 
-sub-i : tie.Need-sub-i Inv-loop μ-loop
-sub-i c = omega arith
-
-cast-out : tie.Need-cast-out Inv-loop μ-loop
-cast-out c = omega arith
-
-slice-write-out : tie.Need-slice-write-out Inv-loop μ-loop
-slice-write-out c = omega arith
-
-loop-less : tie.Need-loop-less Inv-loop μ-loop
-loop-less c = omega arith
-
 loop-again : tie.Need-loop-again Inv-loop μ-loop
 loop-again c =
     let a = c .before .loop in
@@ -62,10 +50,10 @@ put-number-spec =
     Inv-loop
     μ-loop
     loop-holds
-    sub-i
-    cast-out
-    slice-write-out
-    loop-less
+    (λ c. omega arith)
+    (λ c. omega arith)
+    (λ c. omega arith)
+    (λ c. omega arith)
     loop-again
     same-length
     returns)

@@ -8,6 +8,7 @@ use lib.ListN.{length, set, length-set}
 use borrow.Rule.Slice.PartMut.{putMid}
 use Rattle.packet.specs.Packet.{bytes}
 use Rattle.packet.proofs.PacketLaws.{length-bytes}
+use Rattle.rangqoda.specs.Verdicts.{verdictLength}
 use Rattle.rangqoda.proofs.VerdictLaws.{room-eight, begun-length, parts-laid}
 use Rattle.rangqoda.proofs.put_parts.Statement.{statement}
 use Rattle.rangqoda.proofs.put_parts.Tie as tie
@@ -18,37 +19,16 @@ eight c =
     let s = c .before .before .before in
     ap length (c .put-number .ensures) ∙ length-bytes _ _ ∙ room-eight (s .args .bytes .now) (s .args .kind) (s .pre)
 
-half : (c : tie.After-put-number) → length (putMid 1 8 (set (c .before .before .before .args .bytes .now) 0 (c .before .before .before .args .kind)) (c .put-number .last .1 .0)) ≡ 18
+half : (c : tie.After-put-number) → length (putMid 1 8 (set (c .before .before .before .args .bytes .now) 0 (c .before .before .before .args .kind)) (c .put-number .last .1 .0)) ≡ verdictLength
 half c =
     let s = c .before .before .before in
     begun-length (s .args .bytes .now) (s .args .kind) (s .pre) (c .put-number .last .1 .0) (eight c)
 
-slice-write-bytes : tie.Need-slice-write-bytes
-slice-write-bytes c = search needs
-
-sub-put-number : tie.Need-sub-put-number
-sub-put-number c = search needs
-
-part-put-number-start : tie.Need-part-put-number-start
-part-put-number-start c = search needs
-
 part-put-number-end : tie.Need-part-put-number-end
 part-put-number-end c = omega (arith, length-set (c .before .args .bytes .now) 0 (c .before .args .kind))
 
-put-number-requires : tie.Need-put-number-requires
-put-number-requires c κs = search needs
-
-sub-put-pattern : tie.Need-sub-put-pattern
-sub-put-pattern c = search needs
-
-part-put-pattern-start : tie.Need-part-put-pattern-start
-part-put-pattern-start c = search needs
-
 part-put-pattern-end : tie.Need-part-put-pattern-end
 part-put-pattern-end c = omega (arith, half (c .before .before))
-
-put-pattern-requires : tie.Need-put-pattern-requires
-put-pattern-requires c κs = search needs
 
 same-length : tie.Need-same-length
 same-length c =
@@ -71,14 +51,14 @@ pub put-parts-spec : {M : Type 1} → statement M
 put-parts-spec =
     tie.close
     (tie.spec
-    slice-write-bytes
-    sub-put-number
-    part-put-number-start
+    (λ c. search needs)
+    (λ c. search needs)
+    (λ c. search needs)
     part-put-number-end
-    put-number-requires
-    sub-put-pattern
-    part-put-pattern-start
+    (λ c κs. search needs)
+    (λ c. search needs)
+    (λ c. search needs)
     part-put-pattern-end
-    put-pattern-requires
+    (λ c κs. search needs)
     same-length
     returns)

@@ -1,13 +1,14 @@
 -- `put_pattern` writes the record of the pattern's positions.
+use native.Mathlib.Omega.{arith}
 use borrow.Author.Needs.{needs}
-use mathlib.Core.Path.{_≡_, refl, sym, ap, _∙_}
+use mathlib.Core.Path.{_≡_, sym, ap, _∙_}
 use mathlib.Core.List.{List}
 use Prim.Native.Nat.{ℕ, _≤_}
 use lib.ListN.{length, take}
 use lib.Seq.{length-take-le}
 use Rattle.patterns.specs.Patterns.{positions}
-use Rattle.patterns.specs.Pages.{recordOf}
-use Rattle.patterns.proofs.PositionLaws.{positions-most, taken-length}
+use Rattle.patterns.specs.Records.{recordOf}
+use Rattle.patterns.proofs.PositionLaws.{positions-most, spread-take, spread-length}
 use Rattle.rangqoda.specs.Marks.{padded}
 use Rattle.rangqoda.proofs.put_pattern.Statement.{statement}
 use Rattle.rangqoda.proofs.put_pattern.Tie as tie
@@ -16,16 +17,13 @@ use Rattle.rangqoda.proofs.put_pattern.Tie as tie
 enough : (c : tie.After-count-of) → c .count-of .result ≤ length (c .before .spread .result)
 enough c =
     let p = c .before .before .before .args .p in
-    rw (c .count-of .ensures) (taken-length (length (positions p)) (c .before .spread .result) (positions p) (c .before .spread .ensures) refl)
+    let few = positions-most p in
+    omega (arith, c .count-of .ensures, spread-length (positions p) (c .before .spread .result) (c .before .spread .ensures) few)
 
 taken : (c : tie.After-count-of) → take (c .count-of .result) (c .before .spread .result) ≡ positions (c .before .before .before .args .p)
-taken c = ap (λ (n : ℕ). take n (c .before .spread .result)) (c .count-of .ensures) ∙ c .before .spread .ensures
-
-spread-requires : tie.Need-spread-requires
-spread-requires c κs = search needs
-
-count-of-requires : tie.Need-count-of-requires
-count-of-requires c κs = search needs
+taken c =
+    let p = c .before .before .before .args .p in
+    ap (λ (n : ℕ). take n (c .before .spread .result)) (c .count-of .ensures) ∙ spread-take (positions p) (c .before .spread .result) (c .before .spread .ensures)
 
 array-share-prefix-held : tie.Need-array-share-prefix-held
 array-share-prefix-held c = enough c
@@ -38,9 +36,6 @@ put-padded-requires c κs =
     let s = c .before .before in
     (rw (taken s) (positions-most (s .before .before .before .args .p)), s .before .before .before .pre)
 
-same-length : tie.Need-same-length
-same-length c = search needs
-
 returns : tie.Need-returns
 returns c = c .before .before .put-padded .ensures ∙ ap (λ (ps : List ℕ). padded (recordOf ps)) (taken (c .before .before .before .before .before))
 
@@ -48,10 +43,10 @@ pub put-pattern-spec : {M : Type 1} → statement M
 put-pattern-spec =
     tie.close
     (tie.spec
-    spread-requires
-    count-of-requires
+    (λ c κs. search needs)
+    (λ c κs. search needs)
     array-share-prefix-held
     slice-aggregate-put-padded
     put-padded-requires
-    same-length
+    (λ c. search needs)
     returns)

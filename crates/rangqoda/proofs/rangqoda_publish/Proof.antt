@@ -9,9 +9,6 @@ returns : tie.Need-returns
 unfolding publishCode
 returns c = search (needs, tests)
 
-shared-slice-read-kind : tie.Need-shared-slice-read-kind
-shared-slice-read-kind c = search needs
-
 returns-2 : tie.Need-returns-2
 unfolding publishCode
 returns-2 c = search (needs, tests)
@@ -26,4 +23,4 @@ returns-4 c = search (needs, tests)
 
 pub rangqoda-publish-spec : {M : Type 1} → statement M
 rangqoda-publish-spec =
-    tie.close (tie.spec returns shared-slice-read-kind returns-2 returns-3 returns-4)
+    tie.close (tie.spec returns (λ c. search needs) returns-2 returns-3 returns-4)

@@ -4,23 +4,11 @@ use Rattle.rangqoda.proofs.CodeLaws.{code-refused, code-accepted, chang
 use Rattle.rangqoda.proofs.rangqoda_remainder.Statement.{statement}
 use Rattle.rangqoda.proofs.rangqoda_remainder.Tie as tie
 
-remainder-requires : tie.Need-remainder-requires
-remainder-requires c κs = search needs
-
-enum-known-answer : tie.Need-enum-known-answer
-enum-known-answer c = search needs
-
-code-of-requires : tie.Need-code-of-requires
-code-of-requires c κs = search needs
-
-enum-known-answer-2 : tie.Need-enum-known-answer-2
-enum-known-answer-2 c = search needs
-
 returns : tie.Need-returns
 returns c =
     let m = c .before .before in
     let e = rw (m .answer .given .1) at (m .before .before .remainder .ensures) in
-    (code-refused e (c .code-of .ensures), changed-refused _ _ e)
+    (code-refused e (c .number-of .ensures), changed-refused _ _ e)
 
 returns-2 : tie.Need-returns-2
 returns-2 c =
@@ -32,9 +20,9 @@ pub rangqoda-remainder-spec : {M : Type 1} → statement M
 rangqoda-remainder-spec =
     tie.close
     (tie.spec
-    remainder-requires
-    enum-known-answer
-    code-of-requires
-    enum-known-answer-2
+    (λ c κs. search needs)
+    (λ c. search needs)
+    (λ c κs. search needs)
+    (λ c. search needs)
     returns
     returns-2)

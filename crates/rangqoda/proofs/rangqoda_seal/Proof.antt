@@ -4,29 +4,11 @@ use Rattle.rangqoda.proofs.CodeLaws.{code-refused, code-accepted}
 use Rattle.rangqoda.proofs.rangqoda_seal.Statement.{statement}
 use Rattle.rangqoda.proofs.rangqoda_seal.Tie as tie
 
-seal-requires : tie.Need-seal-requires
-seal-requires c κs = search needs
-
-enum-known-answer : tie.Need-enum-known-answer
-enum-known-answer c = search needs
-
-code-of-requires : tie.Need-code-of-requires
-code-of-requires c κs = search needs
-
-enum-told : tie.Need-enum-told
-enum-told c = search needs
-
-same-length : tie.Need-same-length
-same-length c = search needs
-
 returns : tie.Need-returns
 returns c =
     let m = c .before .before in
     let done = m .before .before .before .before .seal .ensures in
-    (code-refused (rw (m .answer .given .1) at (done .0)) (c .code-of .ensures), done .1)
-
-same-length-2 : tie.Need-same-length-2
-same-length-2 c = search needs
+    (code-refused (rw (m .answer .given .1) at (done .0)) (c .number-of .ensures), done .1)
 
 returns-2 : tie.Need-returns-2
 returns-2 c =
@@ -37,11 +19,11 @@ pub rangqoda-seal-spec : {M : Type 1} → statement M
 rangqoda-seal-spec =
     tie.close
     (tie.spec
-    seal-requires
-    enum-known-answer
-    code-of-requires
-    enum-told
-    same-length
+    (λ c κs. search needs)
+    (λ c. search needs)
+    (λ c κs. search needs)
+    (λ c. search needs)
+    (λ c. search needs)
     returns
-    same-length-2
+    (λ c. search needs)
     returns-2)

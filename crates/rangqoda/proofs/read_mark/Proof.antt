@@ -1,4 +1,5 @@
 -- `read_mark` goes by the length and the first byte, as the definition does.
+use native.Mathlib.Omega.{arith}
 use borrow.Author.Needs.{needs}
 use mathlib.Core.Path.{sym, ap, _∙_}
 use Rattle.base.proofs.Cases.{tests}
@@ -8,14 +9,8 @@ use Rattle.rangqoda.proofs.MarkByteLaws.{malformed-by-length}
 use Rattle.rangqoda.proofs.read_mark.Statement.{statement}
 use Rattle.rangqoda.proofs.read_mark.Tie as tie
 
-no-mark-requires : tie.Need-no-mark-requires
-no-mark-requires c κs = search needs
-
 returns : tie.Need-returns
 returns c = rw (c .no-mark .ensures) (sym (malformed-by-length _ (c .before .if1 .taken)))
-
-shared-slice-read-kind : tie.Need-shared-slice-read-kind
-shared-slice-read-kind c = search needs
 
 returns-2 : tie.Need-returns-2
 unfolding placeOfBytes
@@ -25,18 +20,12 @@ returns-3 : tie.Need-returns-3
 unfolding placeOfBytes
 returns-3 c = search (needs, tests)
 
-no-mark-requires-2 : tie.Need-no-mark-requires-2
-no-mark-requires-2 c κs = search needs
+cast-count : tie.Need-cast-count
+cast-count c = omega (arith, c .before .before .shared-slice-known2 .given 0)
 
 returns-4 : tie.Need-returns-4
 unfolding placeOfBytes
 returns-4 c = rw (c .no-mark2 .ensures) (search (needs, tests))
-
-cast-read-pattern : tie.Need-cast-read-pattern
-cast-read-pattern c = search needs
-
-read-pattern-requires : tie.Need-read-pattern-requires
-read-pattern-requires c κs = search needs
 
 returns-5 : tie.Need-returns-5
 unfolding placeOfBytes
@@ -46,13 +35,13 @@ pub read-mark-spec : {M : Type 1} → statement M
 read-mark-spec =
     tie.close
     (tie.spec
-    no-mark-requires
+    (λ c κs. search needs)
     returns
-    shared-slice-read-kind
+    (λ c. search needs)
     returns-2
     returns-3
-    no-mark-requires-2
+    cast-count
+    (λ c κs. search needs)
     returns-4
-    cast-read-pattern
-    read-pattern-requires
+    (λ c κs. search needs)
     returns-5)

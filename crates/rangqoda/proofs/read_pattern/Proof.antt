@@ -1,70 +1,53 @@
--- `read_pattern` reads the four positions that the bytes have room for, of which the pattern has the first.
+-- `read_pattern` reads as many positions as the bytes have room for, of which the pattern has the first.
 use borrow.Author.Needs.{needs}
 use native.Mathlib.Omega.{arith}
 use mathlib.Core.Path.{_≡_, sym, ap, _∙_}
-use mathlib.Core.List.{List, [], _∷_}
-use Prim.Native.Nat.{ℕ}
-use lib.ListN.{drop, take}
+use mathlib.Core.List.{List}
+use Prim.Native.Nat.{ℕ, _-_, _≤_}
+use lib.ListN.{length, drop, take, length-drop}
 use lib.Seq.{take-all, length-take-le}
-use Rattle.rangqoda.specs.Marks.{placesIn}
-use Rattle.rangqoda.proofs.MarkByteLaws.{placesIn-take, four-places}
+use Rattle.patterns.specs.Patterns.{mostPositions}
+use Rattle.patterns.specs.Records.{positionsIn}
+use Rattle.patterns.proofs.RecordLaws.{length-positions, positions-take}
 use Rattle.rangqoda.proofs.read_pattern.Statement.{statement}
 use Rattle.rangqoda.proofs.read_pattern.Tie as tie
 
--- the four positions that the bytes have room for
-abbrev held : tie.After-position-at4 → List ℕ
-held c = c .before .before .before .position-at .result ∷ c .before .before .position-at2 .result ∷ c .before .position-at3 .result ∷ c .position-at4 .result ∷ []
+abbrev entry : tie.After-get-positions → tie.Start
+entry c = c .before .before .before .before
 
-laid : (c : tie.After-position-at4) → held c ≡ placesIn 4 (drop 1 (c .before .before .before .before .before .args .bytes .now))
-laid c =
-    rw (
-      c .before .before .before .position-at .ensures,
-      c .before .before .position-at2 .ensures,
-      c .before .position-at3 .ensures,
-      c .position-at4 .ensures,
-    )
-    (sym (four-places (c .before .before .before .before .before .args .bytes .now)))
+-- what was read: the positions behind the first byte
+read : (c : tie.After-get-positions) → c .get-positions .last .1 .0 ≡ positionsIn mostPositions (drop 1 (entry c .args .bytes .now))
+read c =
+    let s = entry c .args .bytes .now in
+    c .get-positions .ensures ∙ ap (positionsIn mostPositions) (take-all (length s - 1) (drop 1 s) (omega (arith, length-drop 1 s)))
 
-position-at-requires : tie.Need-position-at-requires
-position-at-requires c κs = search needs
-
-position-at-requires-2 : tie.Need-position-at-requires-2
-position-at-requires-2 c κs = search needs
-
-position-at-requires-3 : tie.Need-position-at-requires-3
-position-at-requires-3 c κs = search needs
-
-position-at-requires-4 : tie.Need-position-at-requires-4
-position-at-requires-4 c κs = search needs
-
-array-share-prefix-held : tie.Need-array-share-prefix-held
-array-share-prefix-held c = search needs
+enough : (c : tie.After-get-positions) → entry c .args .count ≤ length (c .get-positions .last .1 .0)
+enough c = omega (arith, entry c .pre .1, ap length (read c), length-positions mostPositions (drop 1 (entry c .args .bytes .now)))
 
 slice-aggregate-from-positions : tie.Need-slice-aggregate-from-positions
-slice-aggregate-from-positions c = sym (length-take-le (c .before .before .before .before .before .before .args .count) (held (c .before)) (c .before .before .before .before .before .before .pre .1))
-
-from-positions-requires : tie.Need-from-positions-requires
-from-positions-requires c κs = search needs
+slice-aggregate-from-positions c =
+    let g = c .before .before in sym (length-take-le (entry g .args .count) (g .get-positions .last .1 .0) (enough g))
 
 returns : tie.Need-returns
 returns c =
-    let h = c .before .before in
-    let start = h .before .before .before .before .before in
-    let n = start .args .count in
+    let g = c .before .before .before in
+    let n : ℕ = entry g .args .count in
+    let held : List ℕ = g .get-positions .last .1 .0 in
     c .from-positions .ensures
-    ∙ take-all 4 (take n (held h)) (omega (arith, length-take-le n (held h) (start .pre .1)))
-    ∙ ap (take n) (laid h)
-    ∙ placesIn-take n 4 (drop 1 (start .args .bytes .now)) (start .pre .1)
+    ∙ take-all mostPositions (take n held) (omega (arith, length-take-le n held (enough g), entry g .pre .1))
+    ∙ ap (take n) (read g)
+    ∙ positions-take n mostPositions (drop 1 (entry g .args .bytes .now)) (entry g .pre .1)
 
 pub read-pattern-spec : {M : Type 1} → statement M
 read-pattern-spec =
     tie.close
     (tie.spec
-    position-at-requires
-    position-at-requires-2
-    position-at-requires-3
-    position-at-requires-4
-    array-share-prefix-held
+    (λ c. search needs)
+    (λ c. search needs)
+    (λ c. search needs)
+    (λ c. search needs)
+    (λ c κs. search needs)
+    (λ c. search needs)
     slice-aggregate-from-positions
-    from-positions-requires
+    (λ c κs. search needs)
     returns)

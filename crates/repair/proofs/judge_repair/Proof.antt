@@ -1,65 +1,146 @@
--- `judge_repair` tests conditions 3, 5, 6, 8 and 9 in this order: at each return those before did not apply.
-use mathlib.Core.Path.{refl, sym, ap, _∙_}
+-- `judge_repair` tests conditions 1, 2, 3, 5, 6, 8 and 9 in this order.
+use mathlib.Core.Path.{_≡_, refl, sym, ap, _∙_}
 use mathlib.Core.Bool.{not}
+use mathlib.Core.List.{List}
+use Prim.Native.Nat.{_*_}
 use borrow.Author.Needs.{needs}
-use Rattle.base.proofs.JudgeLaws.{passed, stopped}
+use lib.ListN.{length, drop}
+use Rattle.base.specs.Outcome.{Condition}
+use Rattle.base.proofs.JudgeLaws.{Untested, all, but, stops, goes-on}
+use Rattle.poly.specs.Polynomial.{degree}
+use Rattle.poly.specs.Fit.{Fit}
+use Rattle.poly.specs.declared.Generator.{Generator}
+use Rattle.poly.proofs.GeneratorLaws.{made-fit}
+use Rattle.packet.specs.Packet.{unfitLength, crcOf}
+use Rattle.checksum.specs.Checksum.{unfitRange}
+use Rattle.tables.specs.Tables.{unfitTables, rightTables, wrongTables}
 use Rattle.tables.proofs.TableLaws.{fit-lengths, not-wrong}
+use Rattle.repair.specs.Calls.{repairRequest, repairConditions}
 use Rattle.repair.proofs.ConditionLaws.{copy-unfit, copy-fit}
 use Rattle.repair.proofs.judge_repair.Statement.{statement}
 use Rattle.repair.proofs.judge_repair.Tie as tie
 
-unfit-limit-requires : tie.Need-unfit-limit-requires
-unfit-limit-requires c κs = search needs
+abbrev conditions : tie.Start → List Condition
+conditions s =
+    let a = s .args in
+    repairConditions (repairRequest (crcOf (a .generator)) (a .check) (a .limit) (a .steps .now) (a .firsts .now) (a .packet .now) (a .output .now))
+
+-- past each condition: the entry, and what is left to test
+abbrev entry0 : tie.After-unfit-generator → tie.Start
+entry0 c = c .before .before .before .before .before
+
+left0 : (c : tie.After-unfit-generator) → Untested (conditions (entry0 c)) (conditions (entry0 c))
+left0 c = all refl
+
+left1 : (c : tie.Else1) → let s = entry0 (c .before) in Untested (conditions s) (drop 1 (conditions s))
+left1 c = but (left0 (c .before)) (c .before .unfit-generator .ensures) (c .if1 .left)
+
+-- the generator made is that of the number, and it is fit
+abbrev entry : tie.After-of → tie.Start
+entry c = entry0 (c .before .before)
+
+fit : (c : tie.After-of) → Fit (c .of .result)
+fit c = made-fit (entry c .args .generator) (c .before .before .unfit-generator .ensures) (c .before .if1 .left) (c .of .ensures)
+
+tested2 : (c : tie.After-unfit-bytes) → let a = entry (c .before) .args in c .unfit-bytes .result ≡ unfitLength (degree (a .generator)) (8 * length (a .packet .now))
+tested2 c =
+    let a = entry (c .before) .args in
+    c .unfit-bytes .ensures ∙ ap (λ (g : Generator). unfitLength (g .degree) (8 * length (a .packet .now))) (c .before .of .ensures)
+
+left2 : (c : tie.Else2) → let s = entry (c .before .before) in Untested (conditions s) (drop 2 (conditions s))
+left2 c = but (left1 (c .before .before .before)) (tested2 (c .before)) (c .if2 .left)
+
+abbrev made3 : tie.Else3 → tie.After-of
+made3 c = c .before .before .before .before
+
+left3 : (c : tie.Else3) → let s = entry (made3 c) in Untested (conditions s) (drop 3 (conditions s))
+left3 c = but (left2 (c .before .before)) (c .before .unfit-limit .ensures) (c .if3 .left)
+
+tested4 : (c : tie.After-unfit-tables) → let a = entry (made3 (c .before)) .args in
+    c .unfit-tables .result ≡ unfitTables (degree (a .generator)) (length (a .steps .now)) (length (a .firsts .now))
+tested4 c =
+    let o = made3 (c .before) in
+    let a = entry o .args in
+    c .unfit-tables .ensures ∙ ap (λ (g : Generator). unfitTables (g .degree) (length (a .steps .now)) (length (a .firsts .now))) (o .of .ensures)
+
+abbrev made4 : tie.Else4 → tie.After-of
+made4 c = made3 (c .before .before)
+
+left4 : (c : tie.Else4) → let s = entry (made4 c) in Untested (conditions s) (drop 4 (conditions s))
+left4 c = but (left3 (c .before .before)) (tested4 (c .before)) (c .if4 .left)
+
+tested5 : (c : tie.After-verify) → let a = entry (made4 (c .before)) .args in
+    not (c .verify .result) ≡ wrongTables (degree (a .generator)) (a .generator) (a .steps .now) (a .firsts .now)
+tested5 c =
+    let o = made4 (c .before) in
+    let a = entry o .args in
+    ap not (c .verify .ensures ∙ ap (λ (g : Generator). rightTables (g .degree) (g .coefficients) (a .steps .now) (a .firsts .now)) (o .of .ensures))
+    ∙ sym (not-wrong _ _ _ _)
+
+abbrev made5 : tie.Else5 → tie.After-of
+made5 c = made4 (c .before .before)
+
+left5 : (c : tie.Else5) → let s = entry (made5 c) in Untested (conditions s) (drop 5 (conditions s))
+left5 c = but (left4 (c .before .before)) (tested5 (c .before)) (c .if5 .left)
+
+left6 : (c : tie.Else6) → let s = entry (made5 (c .before)) in Untested (conditions s) (drop 6 (conditions s))
+left6 c = but (left5 (c .before)) (copy-fit _ _ (c .if6 .left)) refl
+
+tested7 : (c : tie.After-unfit-range) → let a = entry (made5 (c .before .before)) .args in
+    c .unfit-range .result ≡ unfitRange (degree (a .generator)) (8 * length (a .packet .now)) (a .check)
+tested7 c =
+    let o = made5 (c .before .before) in
+    let a = entry o .args in
+    c .unfit-range .ensures ∙ ap (λ (g : Generator). unfitRange (g .degree) (8 * length (a .packet .now)) (a .check)) (o .of .ensures)
 
 returns : tie.Need-returns
-returns c =
-    stopped _ (c .before .unfit-limit .ensures) (c .if1 .taken)
-
-unfit-tables-requires : tie.Need-unfit-tables-requires
-unfit-tables-requires c κs = search needs
+returns c = stops (left0 (c .before)) (c .before .unfit-generator .ensures) (c .if1 .taken)
 
 returns-2 : tie.Need-returns-2
-returns-2 c =
-    passed _ ((c .before .before) .before .unfit-limit .ensures) ((c .before .before) .if1 .left) (stopped _ (c .before .unfit-tables .ensures) (c .if2 .taken))
+returns-2 c = stops (left1 (c .before .before .before)) (tested2 (c .before)) (c .if2 .taken)
+
+returns-3 : tie.Need-returns-3
+returns-3 c = stops (left2 (c .before .before)) (c .before .unfit-limit .ensures) (c .if3 .taken)
+
+unfit-tables-requires : tie.Need-unfit-tables-requires
+unfit-tables-requires c κs = fit (made3 c)
+
+returns-4 : tie.Need-returns-4
+returns-4 c = stops (left3 (c .before .before)) (tested4 (c .before)) (c .if4 .taken)
 
 verify-requires : tie.Need-verify-requires
 verify-requires c κs =
-    let p = (c .before .before .before .before .before .before) .pre .0 in
-    let l = fit-lengths _ _ _ (sym ((c .before) .unfit-tables .ensures) ∙ c .if2 .left) in (
-      record { divisor = p .divisor; atLeast = p .least; atMost = p .most; full = l .0 },
-      record { divisor = p .divisor; atLeast = p .least; atMost = p .most; full = l .1 },
-    )
-
-returns-3 : tie.Need-returns-3
-returns-3 c =
-    passed _ ((c .before .before .before .before) .before .unfit-limit .ensures) ((c .before .before .before .before) .if1 .left) (passed _ ((c .before .before) .before .unfit-tables .ensures) ((c .before .before) .if2 .left) (stopped _ (ap not (c .before .verify .ensures) ∙ sym (not-wrong _ _ _ _)) (c .if3 .taken)))
-
-returns-4 : tie.Need-returns-4
-returns-4 c =
-    passed _ ((c .before .before .before .before .before) .before .unfit-limit .ensures) ((c .before .before .before .before .before) .if1 .left) (passed _ ((c .before .before .before) .before .unfit-tables .ensures) ((c .before .before .before) .if2 .left) (passed _ (ap not ((c .before) .before .verify .ensures) ∙ sym (not-wrong _ _ _ _)) ((c .before) .if3 .left) (stopped _ (copy-unfit _ _ (c .if4 .taken)) refl)))
-
-range-unfit-requires : tie.Need-range-unfit-requires
-range-unfit-requires c κs = search needs
+    let full = fit-lengths _ _ _ (sym (c .before .unfit-tables .ensures) ∙ c .if4 .left) in
+    (record { fit = fit (made4 c); full = full .0 }, record { fit = fit (made4 c); full = full .1 })
 
 returns-5 : tie.Need-returns-5
-returns-5 c =
-    passed _ ((c .before .before .before .before .before .before .before) .before .unfit-limit .ensures) ((c .before .before .before .before .before .before .before) .if1 .left) (passed _ ((c .before .before .before .before .before) .before .unfit-tables .ensures) ((c .before .before .before .before .before) .if2 .left) (passed _ (ap not ((c .before .before .before) .before .verify .ensures) ∙ sym (not-wrong _ _ _ _)) ((c .before .before .before) .if3 .left) (passed _ (copy-fit _ _ ((c .before .before) .if4 .left)) refl (stopped _ (c .before .range-unfit .ensures) (c .if5 .taken)))))
+returns-5 c = stops (left4 (c .before .before)) (tested5 (c .before)) (c .if5 .taken)
 
 returns-6 : tie.Need-returns-6
-returns-6 c =
-    passed _ ((c .before .before .before .before .before .before .before) .before .unfit-limit .ensures) ((c .before .before .before .before .before .before .before) .if1 .left) (passed _ ((c .before .before .before .before .before) .before .unfit-tables .ensures) ((c .before .before .before .before .before) .if2 .left) (passed _ (ap not ((c .before .before .before) .before .verify .ensures) ∙ sym (not-wrong _ _ _ _)) ((c .before .before .before) .if3 .left) (passed _ (copy-fit _ _ ((c .before .before) .if4 .left)) refl (passed _ (c .before .range-unfit .ensures) (c .if5 .left) refl))))
+returns-6 c = stops (left5 (c .before)) (copy-unfit _ _ (c .if6 .taken)) refl
+
+returns-7 : tie.Need-returns-7
+returns-7 c = stops (left6 (c .before .before)) (tested7 (c .before)) (c .if7 .taken)
+
+returns-8 : tie.Need-returns-8
+returns-8 c = goes-on (but (left6 (c .before .before)) (tested7 (c .before)) (c .if7 .left))
 
 pub judge-repair-spec : {M : Type 1} → statement M
 judge-repair-spec =
     tie.close
     (tie.spec
-    unfit-limit-requires
+    (λ c κs. search needs)
     returns
-    unfit-tables-requires
+    (λ c κs. search needs)
+    (λ c κs. search needs)
     returns-2
-    verify-requires
+    (λ c κs. search needs)
     returns-3
+    unfit-tables-requires
     returns-4
-    range-unfit-requires
+    verify-requires
     returns-5
-    returns-6)
+    returns-6
+    (λ c κs. search needs)
+    returns-7
+    returns-8)

@@ -1,106 +1,91 @@
--- `repair` answers by its conditions, and else with the verdict; the output changes only for Repaired.
-use mathlib.Core.Path.{sym, ap, _∙_}
-use mathlib.Core.List.{List}
-use Prim.Native.Nat.{_*_}
+-- `repair` answers by its conditions and then leaves the output alone; else it is the verdict, and the output changes only
+-- for Repaired.
+use mathlib.Core.Path.{_≡_, sym, ap, _∙_}
+use mathlib.Core.List.{[]}
+use Prim.Native.Nat.{ℕ, _*_}
 use native.Mathlib.Omega.{arith}
 use borrow.Author.Needs.{needs}
 use lib.ListN.{length}
-use Rattle.base.specs.Outcome.{Condition, refused, accepted, judge}
-use Rattle.poly.specs.Generators.{generatorOf}
-use Rattle.poly.specs.declared.Generator.{Generator}
-use Rattle.packet.proofs.AdmitLaws.{admitted-refused, admitted-made}
-use Rattle.pages.proofs.CallLaws.{admitted-fit, later-refused, later-passed}
-use Rattle.repair.specs.Verdicts.{passesBoth, candidates, verdict, output}
-use Rattle.repair.specs.Judged.{judgedPacket, judgedOutput}
-use Rattle.repair.specs.Calls.{Repair, laterConditions, namedBy}
+use Rattle.base.specs.Outcome.{refused, accepted}
+use Rattle.base.proofs.JudgeLaws.{turned-down, let-through, none-applies}
+use Rattle.poly.specs.Polynomial.{degree}
+use Rattle.poly.proofs.GeneratorLaws.{fit-accepted}
+use Rattle.packet.specs.Packet.{Bytes, crcOf}
+use Rattle.packet.specs.declared.Crc.{Crc}
+use Rattle.packet.proofs.PacketLaws.{fit-length}
+use Rattle.checksum.proofs.ConditionLaws.{fit-range}
+use Rattle.tables.proofs.TableLaws.{right-unless-wrong}
+use Rattle.patterns.proofs.MarkLaws.{fit-limit}
+use Rattle.repair.specs.Verdicts.{said, passesBoth, candidates, verdict, outputFor}
+use Rattle.repair.specs.Tallies.{firstVerdict}
+use Rattle.repair.specs.Calls.{Repair, repairRequest, repairConditions, namedIn}
+use Rattle.repair.proofs.ConditionLaws.{fit-copy}
 use Rattle.repair.proofs.SettleLaws.{verdict-named}
-use Rattle.repair.proofs.CallLaws.{firstVerdict, settleable, verdict-made, output-made, names-well}
+use Rattle.repair.proofs.CallLaws.{names-well}
 use Rattle.repair.proofs.repair.Statement.{statement}
 use Rattle.repair.proofs.repair.Tie as tie
 
-admit-requires : tie.Need-admit-requires
-admit-requires c κs = search needs
+abbrev request : tie.Start → Repair
+request s =
+    let a = s .args in
+    repairRequest (crcOf (a .generator)) (a .check) (a .limit) (a .steps .now) (a .firsts .now) (a .packet .now) (a .output .now)
 
-enum-known-made : tie.Need-enum-known-made
-enum-known-made c = search needs
-
-enum-known-made-2 : tie.Need-enum-known-made-2
-enum-known-made-2 c = search needs
-
-judge-repair-requires : tie.Need-judge-repair-requires
-judge-repair-requires c κs =
-    let a = (c .before .before .before .before .before .before .before .before) .args in
-    let m = admitted-made (a .generator) (8 * length (a .packet .now)) ((c .before .before .before) .admit .ensures) ((c .before) .made2 .given .1) in
-    (admitted-fit m, omega (arith, m .shorter))
-
-enum-known-judged : tie.Need-enum-known-judged
-enum-known-judged c = search needs
-
-enum-told : tie.Need-enum-told
-enum-told c = search needs
+abbrev entry : tie.After-judge-repair → tie.Start
+entry c = c .before .before .before .before .before .before
 
 conclude-requires : tie.Need-conclude-requires
 conclude-requires c κs =
-    let a = (c .before .before .before .before .before .before .before .before .before .before .before .before) .args in
+    let m = c .before in
+    let j = m .before .before .before in
+    let s = entry j in
+    let a = s .args in
+    let n : ℕ = degree (a .generator) in
     let p = a .packet .now in
-    settleable p (admitted-made (a .generator) (8 * length p) ((c .before .before .before .before .before .before .before) .admit .ensures) ((c .before .before .before .before .before) .made2 .given .1))
-    (λ i. omega (arith, (c .before .before .before .before .before .before .before .before .before) .shared-slice-known3 .given i)) (a .from) (a .to) (a .limit) (a .steps .now) (a .firsts .now) (length (a .output .now))
-    ((c .before .before .before) .judge-repair .ensures) ((c .before) .enum-told .given .1)
+    let b : Bytes p = λ i. omega (arith, j .before .before .before .shared-slice-known3 .given i) in
+    let clear = none-applies (repairConditions (request s)) (j .judge-repair .ensures) (m .before .enum-told .given .1) in
+    let right = right-unless-wrong n (a .generator) (a .steps .now) (a .firsts .now) (clear 6) in
+    let range = fit-range n (8 * length p) (a .check) (clear 9) in
+    rw (m .crc-of .ensures) (
+      record {
+        fit = fit-accepted (a .generator) (clear 1);
+        bytes = b;
+        short = omega (arith, fit-length n (8 * length p) (clear 2) .1);
+        few = fit-limit (a .limit) (clear 3);
+        ordered = omega (arith, range .some);
+        inside = omega (arith, range .whole);
+        rightSteps = right .0;
+        rightFirsts = right .1;
+      },
+      fit-copy (length (a .output .now)) (length p) (clear 8),
+    )
 
 returns : tie.Need-returns
 returns c =
-    let a = (c .before .before .before .before .before .before .before .before) .args in
-    let p = a .packet .now in
-    let o = a .output .now in
-    let later : Generator → List Condition =
-    λ w. laterConditions (w .degree) (w .bits) (a .from) (a .to) (a .limit) (a .steps .now) (a .firsts .now) (length p) (length o) in
-    let e = (c .before .before .before) .admit .ensures in
-    let h = (c .before) .made .given .1 in
-    let rest = later (generatorOf (a .generator)) in (
-      sym (admitted-refused (a .generator) (8 * length p) e h refused (judge rest refused (accepted (verdict (a .generator) (a .from) (a .to) (a .limit) p mathlib.Core.List.[])))),
-      (tt, sym (admitted-refused (a .generator) (8 * length p) e h (λ _. o) (judge rest (λ _. o) (output (a .generator) (a .from) (a .to) (a .limit) p o)))),
+    let j = c .before .before .before in
+    let r = request (entry j) in
+    let h = c .before .judged .given .1 in (
+      sym (turned-down (repairConditions r) (j .judge-repair .ensures) h refused (accepted (verdict (r .crc) (r .check) (r .limit) (r .packet) []))),
+      (tt, sym (turned-down (repairConditions r) (j .judge-repair .ensures) h (λ _. r .output) (outputFor (r .crc) (r .check) (r .limit) (r .packet) (r .output)))),
     )
 
 returns-2 : tie.Need-returns-2
 returns-2 c =
-    let a = (c .before .before .before .before .before .before .before .before .before .before .before .before) .args in
-    let p = a .packet .now in
-    let o = a .output .now in
-    let later : Generator → List Condition =
-    λ w. laterConditions (w .degree) (w .bits) (a .from) (a .to) (a .limit) (a .steps .now) (a .firsts .now) (length p) (length o) in
-    let e = (c .before .before .before .before .before .before .before) .admit .ensures in
-    let m = (c .before .before .before .before .before) .made2 .given .1 in
-    let j = (c .before .before .before) .judge-repair .ensures in
-    let h = (c .before) .judged .given .1 in (
-      sym (later-refused (a .generator) (8 * length p) later e m j h refused (accepted (verdict (a .generator) (a .from) (a .to) (a .limit) p mathlib.Core.List.[]))),
-      (tt, sym (later-refused (a .generator) (8 * length p) later e m j h (λ _. o) (output (a .generator) (a .from) (a .to) (a .limit) p o))),
-    )
-
-same-length : tie.Need-same-length
-same-length c = search needs
-
-returns-3 : tie.Need-returns-3
-unfolding firstVerdict
-returns-3 c =
-    let a = (c .before .before .before .before .before .before .before .before .before .before .before .before .before .before .before) .args in
-    let p = a .packet .now in
-    let o = a .output .now in
-    let later : Generator → List Condition =
-    λ w. laterConditions (w .degree) (w .bits) (a .from) (a .to) (a .limit) (a .steps .now) (a .firsts .now) (length p) (length o) in
-    let e = (c .before .before .before .before .before .before .before .before .before .before) .admit .ensures in
-    let m = (c .before .before .before .before .before .before .before .before) .made2 .given .1 in
-    let j = (c .before .before .before .before .before .before) .judge-repair .ensures in
-    let h = (c .before .before .before .before) .enum-told .given .1 in
-    let v = (c .before .before) .conclude .result in
-    let made = sym (admitted-made (a .generator) (8 * length p) e m .made) in
-    let said-first = (c .before .before) .conclude .ensures .0 ∙ ap (λ (w : Generator). judgedPacket w (a .from) (a .to) (a .limit) p) made ∙ verdict-made (a .generator) (a .from) (a .to) (a .limit) p in
-    let request : Repair = record { generator = a .generator; from = a .from; to = a .to; limit = a .limit; steps = a .steps .now; firsts = a .firsts .now; packet = p; output = o } in (
-      ap accepted (verdict-named (passesBoth (a .generator) (a .from) (a .to) p) (candidates (a .generator) (a .from) (a .to) (a .limit) p) v said-first)
-          ∙ sym (later-passed (a .generator) (8 * length p) later e m j h refused (accepted (verdict (a .generator) (a .from) (a .to) (a .limit) p (namedBy v)))),
+    let f = c .before .before in
+    let m = f .before .before in
+    let j = m .before .before .before in
+    let r = request (entry j) in
+    let e = j .judge-repair .ensures in
+    let h = m .before .enum-told .given .1 in
+    let v = f .conclude .result in
+    let first : said v ≡ firstVerdict (r .crc) (r .check) (r .limit) (r .packet) =
+    f .conclude .ensures .0 ∙ ap (λ (k : Crc). firstVerdict k (r .check) (r .limit) (r .packet)) (m .crc-of .ensures) in (
+      ap accepted (verdict-named (passesBoth (r .crc) (r .check) (r .packet)) (candidates (r .crc) (r .check) (r .limit) (r .packet)) v first)
+          ∙ sym (let-through (repairConditions r) e h refused (accepted (verdict (r .crc) (r .check) (r .limit) (r .packet) (namedIn (accepted (said v)))))),
       (
-        names-well request v said-first,
-        ((c .before .before) .conclude .ensures .1 ∙ ap (λ (w : Generator). judgedOutput w (a .from) (a .to) (a .limit) p o) made ∙ output-made (a .generator) (a .from) (a .to) (a .limit) p o)
-            ∙ sym (later-passed (a .generator) (8 * length p) later e m j h (λ _. o) (output (a .generator) (a .from) (a .to) (a .limit) p o)),
+        names-well r v first,
+        f .conclude .ensures .1
+            ∙ ap (λ (k : Crc). outputFor k (r .check) (r .limit) (r .packet) (r .output)) (m .crc-of .ensures)
+            ∙ sym (let-through (repairConditions r) e h (λ _. r .output) (outputFor (r .crc) (r .check) (r .limit) (r .packet) (r .output))),
       ),
     )
 
@@ -108,14 +93,12 @@ pub repair-spec : {M : Type 1} → statement M
 repair-spec =
     tie.close
     (tie.spec
-    admit-requires
-    enum-known-made
-    enum-known-made-2
-    judge-repair-requires
-    enum-known-judged
-    enum-told
+    (λ c κs. search needs)
+    (λ c. search needs)
+    (λ c. search needs)
+    (λ c κs. search needs)
     conclude-requires
+    (λ c. search needs)
     returns
-    returns-2
-    same-length
-    returns-3)
+    (λ c. search needs)
+    returns-2)

@@ -7,46 +7,43 @@ use borrow.Author.Needs.{needs}
 use lib.ListN.{length}
 use Rattle.patterns.specs.Patterns.{start}
 use Rattle.patterns.specs.Marks.{remaining}
-use Rattle.pages.specs.Filling.{searched}
-use Rattle.pages.proofs.SearchLaws.{told-fits}
+use Rattle.cursor.specs.Cursors.{listedBy}
+use Rattle.cursor.proofs.AheadLaws.{told-fits}
 use Rattle.repair.proofs.TallyLaws.{started}
 use Rattle.repair.proofs.tally_by.Statement.{statement}
 use Rattle.repair.proofs.tally_by.Tie as tie
 
-begin-requires : tie.Need-begin-requires
-begin-requires c κs = search needs
+-- the search keeps the slice's length
+kept : (c : tie.After-begin) → length (c .begin .last .1 .1 .1 .1 .0) ≡ length (c .before .before .before .before .before .before .args .pos .now)
+kept c = search needs
 
 tally-from-requires : tie.Need-tally-from-requires
 tally-from-requires c κs =
-    let s = (c .before .before .before .before .before .before .before .before .before) in
-    let b = (c .before .before .before) in
+    let b = c .before .before .before in
+    let s = b .before .before .before .before .before .before in
     let a = s .args in
+    let l : ℕ = length (a .pow .now) in
     let m : ℕ = length (a .pos .now) in
-    let xs : List (List ℕ) = searched (a .g) (a .pow .now) m (a .syndrome) in
-    let next = b .begin .last .1 .1 .1 .1 .1 .1 .0 in
-    let e : length next ≡ m = search needs in
-    let whole = started (length (a .pow .now)) m xs (b .begin .result) next (b .begin .ensures) in (
+    let xs : List (List ℕ) = listedBy (a .cursor) l m in
+    let next = b .begin .last .1 .1 .1 .1 .0 in
+    let whole = started l m xs (b .begin .result) next (b .begin .ensures) in (
       s .pre .0,
-      (
-        told-fits (length (a .pow .now)) m xs (remaining xs start) (b .begin .result) next (b .begin .ensures) (omega arith),
-        (rw e (s .pre .1 .0), rw (e, whole) (s .pre .1 .1)),
-      ),
+      told-fits l m xs (remaining xs start) (b .begin .result) next (b .begin .ensures) (omega (arith, kept b)),
+      s .pre .1,
+      s .pre .2,
+      rw (kept b) (s .pre .3),
+      rw (kept b, whole) (s .pre .4),
     )
-
-same-length : tie.Need-same-length
-same-length c = search needs
 
 returns : tie.Need-returns
 returns c =
-    let s = (c .before .before .before .before .before .before .before .before .before .before .before .before) in
-    let b = (c .before .before .before .before .before .before) in
-    let a = s .args in
+    let f = c .before .before in
+    let b = f .before .before .before .before in
+    let a = b .before .before .before .before .before .before .args in
+    let l : ℕ = length (a .pow .now) in
     let m : ℕ = length (a .pos .now) in
-    let xs : List (List ℕ) = searched (a .g) (a .pow .now) m (a .syndrome) in
-    let next = b .begin .last .1 .1 .1 .1 .1 .1 .0 in
-    let e : length next ≡ m = search needs in
-    let whole = started (length (a .pow .now)) m xs (b .begin .result) next (b .begin .ensures) in
-    rw (e, whole) at ((c .before .before) .tally-from .ensures)
+    let whole = started l m (listedBy (a .cursor) l m) (b .begin .result) (b .begin .last .1 .1 .1 .1 .0) (b .begin .ensures) in
+    rw (kept b, whole) at (f .tally-from .ensures)
 
 pub tally-by-spec : {M : Type 1} → statement M
-tally-by-spec = tie.close (tie.spec begin-requires tally-from-requires same-length returns)
+tally-by-spec = tie.close (tie.spec (λ c κs. search needs) tally-from-requires (λ c. search needs) returns)

@@ -11,45 +11,18 @@ Inv-loop text steps₀ firsts₀ at₀ left₀ steps firsts at left = (length st
 abbrev μ-loop : tie.MeasureT-loop
 μ-loop text steps₀ firsts₀ at₀ left₀ steps firsts at left = left
 
-number-requires : tie.Need-number-requires Inv-loop μ-loop
-number-requires c κs = search needs
-
-loop-holds : tie.Need-loop-holds Inv-loop μ-loop
-loop-holds c = search needs
-
-group-requires : tie.Need-group-requires Inv-loop μ-loop
-group-requires c κs = search needs
-
-sub-left : tie.Need-sub-left Inv-loop μ-loop
-sub-left c = search needs
-
-loop-less : tie.Need-loop-less Inv-loop μ-loop
-loop-less c = search needs
-
-loop-again : tie.Need-loop-again Inv-loop μ-loop
-loop-again c = search needs
-
-same-length : tie.Need-same-length Inv-loop μ-loop
-same-length c = search needs
-
-same-length-2 : tie.Need-same-length-2 Inv-loop μ-loop
-same-length-2 c = search needs
-
-returns : tie.Need-returns Inv-loop μ-loop
-returns c = search needs
-
 pub groups-spec : {M : Type 1} → statement M
 groups-spec =
     tie.close
     (tie.spec
     Inv-loop
     μ-loop
-    number-requires
-    loop-holds
-    group-requires
-    sub-left
-    loop-less
-    loop-again
-    same-length
-    same-length-2
-    returns)
+    (λ c κs. search needs)
+    (λ c. search needs)
+    (λ c κs. search needs)
+    (λ c. search needs)
+    (λ c. search needs)
+    (λ c. search needs)
+    (λ c. search needs)
+    (λ c. search needs)
+    (λ c. search needs))

@@ -35,50 +35,20 @@ place-Inv-loop pow first period lo u pos₀ a₀ pos a =
 abbrev place-μ-loop : place-lts.MeasureT-loop
 place-μ-loop pow first period lo u pos₀ a₀ pos a = length pow - a
 
-place-few-requires : (t : ℕ) → place-lts.Need-few-requires (few-reads.Asked, few-reads.Learnt, place-below t, place.Post) (place-at t) place.Post place-Inv-loop place-μ-loop
-place-few-requires t c κs = search needs
-
-place-same-length : (t : ℕ) → place-lts.Need-same-length (few-reads.Asked, few-reads.Learnt, place-below t, place.Post) (place-at t) place.Post place-Inv-loop place-μ-loop
-place-same-length t c = search needs
-
 place-returns : (t : ℕ) → place-lts.Need-returns (few-reads.Asked, few-reads.Learnt, place-below t, place.Post) (place-at t) place.Post place-Inv-loop place-μ-loop
 place-returns t c = c .before .before .few .ensures
 
 place-loop-holds : (t : ℕ) → place-lts.Need-loop-holds (few-reads.Asked, few-reads.Learnt, place-below t, place.Post) (place-at t) place.Post place-Inv-loop place-μ-loop
 place-loop-holds t c = (omega arith, omega arith, refl, λ power l. refl)
 
-place-mul-v : (t : ℕ) → place-lts.Need-mul-v (few-reads.Asked, few-reads.Learnt, place-below t, place.Post) (place-at t) place.Post place-Inv-loop place-μ-loop
-place-mul-v t c = search needs
-
-place-shared-slice-read-v : (t : ℕ) → place-lts.Need-shared-slice-read-v (few-reads.Asked, few-reads.Learnt, place-below t, place.Post) (place-at t) place.Post place-Inv-loop place-μ-loop
-place-shared-slice-read-v t c = search needs
-
 place-cast-v : (t : ℕ) → place-lts.Need-cast-v (few-reads.Asked, few-reads.Learnt, place-below t, place.Post) (place-at t) place.Post place-Inv-loop place-μ-loop
 place-cast-v t c = omega (arith, c .shared-slice-known3 .given (c .before .before .loop .a))
-
-place-add-place : (t : ℕ) → place-lts.Need-add-place (few-reads.Asked, few-reads.Learnt, place-below t, place.Post) (place-at t) place.Post place-Inv-loop place-μ-loop
-place-add-place t c = search needs
-
-place-sub-place : (t : ℕ) → place-lts.Need-sub-place (few-reads.Asked, few-reads.Learnt, place-below t, place.Post) (place-at t) place.Post place-Inv-loop place-μ-loop
-place-sub-place t c = search needs
-
-place-part-place-start : (t : ℕ) → place-lts.Need-part-place-start (few-reads.Asked, few-reads.Learnt, place-below t, place.Post) (place-at t) place.Post place-Inv-loop place-μ-loop
-place-part-place-start t c = search needs
-
-place-part-place-end : (t : ℕ) → place-lts.Need-part-place-end (few-reads.Asked, few-reads.Learnt, place-below t, place.Post) (place-at t) place.Post place-Inv-loop place-μ-loop
-place-part-place-end t c = search needs
 
 place-place-requires : (t : ℕ) → place-lts.Need-place-requires (few-reads.Asked, few-reads.Learnt, place-below t, place.Post) (place-at t) place.Post place-Inv-loop place-μ-loop
 place-place-requires t c κs =
     let s = c .before .before .before .before .before .before .before .before in
     let i = c .before .before .before .loop in
-    (omega (arith, tail-length (i .pos), s .pre .0), ready-next (s .pre .1) (i .a) (c .before .before .loop-test .taken))
-
-place-cast-pos : (t : ℕ) → place-lts.Need-cast-pos (few-reads.Asked, few-reads.Learnt, place-below t, place.Post) (place-at t) place.Post place-Inv-loop place-μ-loop
-place-cast-pos t c = search needs
-
-place-slice-write-pos : (t : ℕ) → place-lts.Need-slice-write-pos (few-reads.Asked, few-reads.Learnt, place-below t, place.Post) (place-at t) place.Post place-Inv-loop place-μ-loop
-place-slice-write-pos t c = search needs
+    (omega (arith, tail-length (i .pos), s .pre .0), ready-next (s .pre .1) (i .a) (c .before .before .loop-test .taken) (omega arith))
 
 place-same-length-2 : (t : ℕ) → place-lts.Need-same-length-2 (few-reads.Asked, few-reads.Learnt, place-below t, place.Post) (place-at t) place.Post place-Inv-loop place-μ-loop
 place-same-length-2 t c =
@@ -90,14 +60,8 @@ place-returns-2 t c power l =
     let s = c .before .before .before .before .before .before .before .before .before .before .before .before in
     let i = c .before .before .before .before .before .before .before .loop in
     let p = c .before .before .before .place in
-    place-hit l (i .a) (s .args .u) (length (s .args .pos .now)) (i .pos) (p .last .1 .1 .1 .1 .1 .0) (p .result) (omega arith) (i .inv .2) (c .before .before .before .before .before .before .loop-test .taken) (p .ensures power l) (c .if2 .taken)
+    place-hit l (i .a) (s .args .u) (length (s .args .pos .now)) (i .pos) (p .last .1 .1 .1 .1 .1 .0) (p .result) (omega arith) (i .inv .2) (c .before .before .before .before .before .before .loop-test .taken) _ (omega arith) (p .ensures power l) (c .if2 .taken)
     ∙ sym (i .inv .3 power l)
-
-place-add-a : (t : ℕ) → place-lts.Need-add-a (few-reads.Asked, few-reads.Learnt, place-below t, place.Post) (place-at t) place.Post place-Inv-loop place-μ-loop
-place-add-a t c = search needs
-
-place-loop-less : (t : ℕ) → place-lts.Need-loop-less (few-reads.Asked, few-reads.Learnt, place-below t, place.Post) (place-at t) place.Post place-Inv-loop place-μ-loop
-place-loop-less t c = search needs
 
 place-loop-again : (t : ℕ) → place-lts.Need-loop-again (few-reads.Asked, few-reads.Learnt, place-below t, place.Post) (place-at t) place.Post place-Inv-loop place-μ-loop
 place-loop-again t c =
@@ -109,11 +73,8 @@ place-loop-again t c =
       tail-back-length (i .pos) (p .last .1 .1 .1 .1 .1 .0) (omega arith) (p .kept .1 .1 .1 .1 .1 .0) ∙ i .inv .2,
       λ power l.
           i .inv .3 power l
-          ∙ place-miss l (i .a) (s .args .u) (length (s .args .pos .now)) (i .pos) (p .last .1 .1 .1 .1 .1 .0) (p .result) (omega arith) (i .inv .2) (c .before .before .before .before .before .before .loop-test .taken) (p .ensures power l) (c .if2 .left),
+          ∙ place-miss l (i .a) (s .args .u) (length (s .args .pos .now)) (i .pos) (p .last .1 .1 .1 .1 .1 .0) (p .result) (omega arith) (i .inv .2) (c .before .before .before .before .before .before .loop-test .taken) _ (omega arith) (p .ensures power l) (c .if2 .left),
     )
-
-place-same-length-3 : (t : ℕ) → place-lts.Need-same-length-3 (few-reads.Asked, few-reads.Learnt, place-below t, place.Post) (place-at t) place.Post place-Inv-loop place-μ-loop
-place-same-length-3 t c = search needs
 
 place-returns-3 : (t : ℕ) → place-lts.Need-returns-3 (few-reads.Asked, few-reads.Learnt, place-below t, place.Post) (place-at t) place.Post place-Inv-loop place-μ-loop
 place-returns-3 t c power l =
@@ -136,24 +97,24 @@ pub +place-spec : {M : Type 1} → statement M
     place.Post
     place-Inv-loop
     place-μ-loop
-    (place-few-requires t)
-    (place-same-length t)
+    (λ c κs. search needs)
+    (λ c. search needs)
     (place-returns t)
     (place-loop-holds t)
-    (place-mul-v t)
-    (place-shared-slice-read-v t)
+    (λ c. search needs)
+    (λ c. search needs)
     (place-cast-v t)
-    (place-add-place t)
-    (place-sub-place t)
-    (place-part-place-start t)
-    (place-part-place-end t)
+    (λ c. search needs)
+    (λ c. search needs)
+    (λ c. search needs)
+    (λ c. search needs)
     (place-place-requires t)
-    (place-cast-pos t)
-    (place-slice-write-pos t)
+    (λ c. search needs)
+    (λ c. search needs)
     (place-same-length-2 t)
     (place-returns-2 t)
-    (place-add-a t)
-    (place-loop-less t)
+    (λ c. search needs)
+    (λ c. search needs)
     (place-loop-again t)
-    (place-same-length-3 t)
+    (λ c. search needs)
     (place-returns-3 t)

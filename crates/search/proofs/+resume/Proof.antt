@@ -32,17 +32,8 @@ resume-returns t c power l =
     let s = c .before .before .before .before in
     sym (firstAfter-empty power (length (s .args .pow .now)) (s .args .u) (s .args .pos .now) (omega arith))
 
-resume-resume-pair-requires : (t : ℕ) → resume-lts.Need-resume-pair-requires (resume-pair-reads.Asked, resume-pair-reads.Learnt, resume-below t, resume.Post, place-reads.Asked, place-reads.Learnt) (resume-at t) resume.Post
-resume-resume-pair-requires t c κs = search needs
-
-resume-same-length : (t : ℕ) → resume-lts.Need-same-length (resume-pair-reads.Asked, resume-pair-reads.Learnt, resume-below t, resume.Post, place-reads.Asked, place-reads.Learnt) (resume-at t) resume.Post
-resume-same-length t c = search needs
-
 resume-returns-2 : (t : ℕ) → resume-lts.Need-returns-2 (resume-pair-reads.Asked, resume-pair-reads.Learnt, resume-below t, resume.Post, place-reads.Asked, place-reads.Learnt) (resume-at t) resume.Post
 resume-returns-2 t c = c .before .before .resume-pair .ensures
-
-resume-slice-read-p : (t : ℕ) → resume-lts.Need-slice-read-p (resume-pair-reads.Asked, resume-pair-reads.Learnt, resume-below t, resume.Post, place-reads.Asked, place-reads.Learnt) (resume-at t) resume.Post
-resume-slice-read-p t c = search needs
 
 resume-cast-p : (t : ℕ) → resume-lts.Need-cast-p (resume-pair-reads.Asked, resume-pair-reads.Learnt, resume-below t, resume.Post, place-reads.Asked, place-reads.Learnt) (resume-at t) resume.Post
 resume-cast-p t c = omega (arith, head-below (c .before .before .before .before .before .before .pre .1 .1) (omega arith))
@@ -58,21 +49,12 @@ resume-cast-v t c =
     let s = c .before .before .before .before .before .before .before in
     omega (arith, c .shared-slice-known3 .given (getD (s .args .pos .now) 0 0))
 
-resume-sub-resume : (t : ℕ) → resume-lts.Need-sub-resume (resume-pair-reads.Asked, resume-pair-reads.Learnt, resume-below t, resume.Post, place-reads.Asked, place-reads.Learnt) (resume-at t) resume.Post
-resume-sub-resume t c = search needs
-
-resume-part-resume-start : (t : ℕ) → resume-lts.Need-part-resume-start (resume-pair-reads.Asked, resume-pair-reads.Learnt, resume-below t, resume.Post, place-reads.Asked, place-reads.Learnt) (resume-at t) resume.Post
-resume-part-resume-start t c = search needs
-
-resume-part-resume-end : (t : ℕ) → resume-lts.Need-part-resume-end (resume-pair-reads.Asked, resume-pair-reads.Learnt, resume-below t, resume.Post, place-reads.Asked, place-reads.Learnt) (resume-at t) resume.Post
-resume-part-resume-end t c = search needs
-
 resume-resume-requires : (t : ℕ) → resume-lts.Need-resume-requires (resume-pair-reads.Asked, resume-pair-reads.Learnt, resume-below t, resume.Post, place-reads.Asked, place-reads.Learnt) (resume-at t) resume.Post
 resume-resume-requires t c κs =
     let s = c .before .before .before .before .before .before .before .before in
     let h = head-below (s .pre .1 .1) (omega arith) in (
       omega (arith, tail-length (s .args .pos .now), s .pre .0),
-      (ready-at (ready-next (s .pre .1 .0) (getD (s .args .pos .now) 0 0) h) 0 (omega arith), tail-ascends (s .pre .1 .1) (omega arith)),
+      (ready-next (s .pre .1 .0) (getD (s .args .pos .now) 0 0) h (omega arith), tail-ascends (s .pre .1 .1) (omega arith)),
     )
 
 resume-same-length-2 : (t : ℕ) → resume-lts.Need-same-length-2 (resume-pair-reads.Asked, resume-pair-reads.Learnt, resume-below t, resume.Post, place-reads.Asked, place-reads.Learnt) (resume-at t) resume.Post
@@ -94,7 +76,7 @@ resume-place-requires : (t : ℕ) → resume-lts.Need-place-requires (resume-pai
 resume-place-requires t c κs =
     let s = c .before .before .before .before .before .before .before .before .before .before .before .before .before in
     let h = head-below (s .pre .1 .1) (omega arith) in
-    ready-at (s .pre .1 .0) (getD (s .args .pos .now) 0 0 + 1) (omega arith)
+    ready-at (s .pre .1 .0) (omega arith)
 
 resume-same-length-3 : (t : ℕ) → resume-lts.Need-same-length-3 (resume-pair-reads.Asked, resume-pair-reads.Learnt, resume-below t, resume.Post, place-reads.Asked, place-reads.Learnt) (resume-at t) resume.Post
 resume-same-length-3 t c =
@@ -114,17 +96,17 @@ pub +resume-spec : {M : Type 1} → statement M
     (resume-at t)
     resume.Post
     (resume-returns t)
-    (resume-resume-pair-requires t)
-    (resume-same-length t)
+    (λ c κs. search needs)
+    (λ c. search needs)
     (resume-returns-2 t)
-    (resume-slice-read-p t)
+    (λ c. search needs)
     (resume-cast-p t)
     (resume-mul-v t)
     (resume-shared-slice-read-v t)
     (resume-cast-v t)
-    (resume-sub-resume t)
-    (resume-part-resume-start t)
-    (resume-part-resume-end t)
+    (λ c. search needs)
+    (λ c. search needs)
+    (λ c. search needs)
     (resume-resume-requires t)
     (resume-same-length-2 t)
     (resume-returns-3 t)

@@ -10,23 +10,11 @@ use Rattle.search.proofs.HeadLaws.{firstOf-empty}
 use Rattle.search.proofs.few.Statement.{statement}
 use Rattle.search.proofs.few.Tie as tie
 
-pair-requires : tie.Need-pair-requires
-pair-requires c κs = search needs
-
-same-length : tie.Need-same-length
-same-length c = search needs
-
 returns : tie.Need-returns
 returns c power t =
     let s = c .before .before .before .before .before .before .before .before in
     let e : 2 ≡ length (s .args .pos .now) = omega arith in
     c .before .before .pair .ensures power t ∙ ap (λ (k : ℕ). firstOf power (length (s .args .pow .now)) k (s .args .lo) (s .args .u)) e
-
-single-requires : tie.Need-single-requires
-single-requires c κs = search needs
-
-same-length-2 : tie.Need-same-length-2
-same-length-2 c = search needs
 
 returns-2 : tie.Need-returns-2
 returns-2 c power t =
@@ -48,11 +36,11 @@ pub few-spec : {M : Type 1} → statement M
 few-spec =
     tie.close
     (tie.spec
-    pair-requires
-    same-length
+    (λ c κs. search needs)
+    (λ c. search needs)
     returns
-    single-requires
-    same-length-2
+    (λ c κs. search needs)
+    (λ c. search needs)
     returns-2
     returns-3
     returns-4)

@@ -1,5 +1,5 @@
 -- `nearest` returns the nearest position: its first one, none below the length, or the first one some periods on.
-use Prim.Native.Nat.{_-_}
+use Prim.Native.Nat.{_-_, _<_}
 use borrow.Author.Needs.{needs}
 use native.Mathlib.Omega.{arith}
 use lib.ListN.{length, getD}
@@ -7,11 +7,9 @@ use Rattle.search.proofs.NearestLaws.{reach-bounds, near-first, near-no
 use Rattle.search.proofs.nearest.Statement.{statement}
 use Rattle.search.proofs.nearest.Tie as tie
 
-mul-f : tie.Need-mul-f
-mul-f c = search needs
-
-shared-slice-read-f : tie.Need-shared-slice-read-f
-shared-slice-read-f c = search needs
+-- the sum looked for has an entry
+inside : (s : tie.Start) → s .args .u < length (s .args .first .now)
+inside s = omega (arith, s .pre .index .full)
 
 cast-f : tie.Need-cast-f
 cast-f c = omega (arith, c .shared-slice-known .given (c .before .args .u))
@@ -19,74 +17,56 @@ cast-f c = omega (arith, c .shared-slice-known .given (c .before .args .u))
 add-if1 : tie.Need-add-if1
 add-if1 c = omega (arith, c .shared-slice-known .given (c .before .args .u))
 
-sub-if1 : tie.Need-sub-if1
-sub-if1 c = search needs
-
-sub-if1-2 : tie.Need-sub-if1-2
-sub-if1-2 c = search needs
-
 returns : tie.Need-returns
 returns c power t =
     let s = c .before .before in
-    near-first t (s .args .u) (s .pre .sum) (length (s .args .pow .now)) (s .args .lo) (s .pre .shape .short)
+    near-first (t .firsts) (s .args .u) (inside s) (length (s .args .pow .now)) (s .args .lo) (s .pre .shape .short)
     (omega (arith, c .before .shared-slice-known .given (s .args .u)))
 
 returns-2 : tie.Need-returns-2
 returns-2 c power t =
     let s = c .before .before .before in
-    near-none t (s .args .u) (s .pre .sum) (length (s .args .pow .now)) (s .args .lo) (s .pre .shape .short)
+    near-none (t .firsts) (s .args .u) (inside s) (length (s .args .pow .now)) (s .args .lo) (s .pre .shape .short)
     (λ h. omega (arith, c .before .before .shared-slice-known .given (s .args .u)))
     (c .if2 .taken)
 
 returns-3 : tie.Need-returns-3
 returns-3 c power t =
     let s = c .before .before .before .before in
-    near-first t (s .args .u) (s .pre .sum) (length (s .args .pow .now)) (s .args .lo) (s .pre .shape .short) (c .if3 .taken)
-
-sub-result : tie.Need-sub-result
-sub-result c = search needs
-
-add-result : tie.Need-add-result
-add-result c = search needs
-
-sub-result-2 : tie.Need-sub-result-2
-sub-result-2 c = search needs
-
-div-result : tie.Need-div-result
-div-result c = search needs
+    near-first (t .firsts) (s .args .u) (inside s) (length (s .args .pow .now)) (s .args .lo) (s .pre .shape .short) (c .if3 .taken)
 
 mul-result : tie.Need-mul-result
 mul-result c =
     let s = c .before .before .before .before in
-    omega (arith, reach-bounds (s .args .lo - getD (s .args .first .now) (s .args .u) 0) (s .args .period) (s .pre .shape .positive))
+    omega (arith, reach-bounds (s .args .lo - getD (s .args .first .now) (s .args .u) 0) (s .args .period) (s .pre .index .positive))
 
 add-result-2 : tie.Need-add-result-2
 add-result-2 c =
     let s = c .before .before .before .before in
-    omega (arith, reach-bounds (s .args .lo - getD (s .args .first .now) (s .args .u) 0) (s .args .period) (s .pre .shape .positive))
+    omega (arith, reach-bounds (s .args .lo - getD (s .args .first .now) (s .args .u) 0) (s .args .period) (s .pre .index .positive))
 
 returns-4 : tie.Need-returns-4
 returns-4 c power t =
     let s = c .before .before .before .before in
-    near-period t (s .args .u) (s .pre .sum) (length (s .args .pow .now)) (s .args .lo) (s .pre .shape .short) (c .if3 .left) (s .pre .start) (s .pre .shape .positive)
+    near-period (t .firsts) (s .args .u) (inside s) (length (s .args .pow .now)) (s .args .lo) (s .pre .shape .short) (c .if3 .left) (s .pre .start) (s .pre .index .positive)
 
 pub nearest-spec : {M : Type 1} → statement M
 nearest-spec =
     tie.close
     (tie.spec
-    mul-f
-    shared-slice-read-f
+    (λ c. search needs)
+    (λ c. search needs)
     cast-f
     add-if1
-    sub-if1
-    sub-if1-2
+    (λ c. search needs)
+    (λ c. search needs)
     returns
     returns-2
     returns-3
-    sub-result
-    add-result
-    sub-result-2
-    div-result
+    (λ c. search needs)
+    (λ c. search needs)
+    (λ c. search needs)
+    (λ c. search needs)
     mul-result
     add-result-2
     returns-4)

@@ -6,7 +6,7 @@ use borrow.Author.Needs.{needs}
 use borrow.Author.Tests.{lt-ltb, le-ltb}
 use native.Mathlib.Omega.{arith}
 use lib.ListN.{length, length-set}
-use Rattle.search.specs.Search.{leads, firstOf, Lookup}
+use Rattle.search.specs.Search.{starts, firstOf, Lookup}
 use Rattle.search.proofs.HeadLaws.{firstOf-past}
 use Rattle.search.proofs.NearestLaws.{pair-turn, ready-next, set-two}
 use Rattle.search.proofs.pair.Statement.{statement}
@@ -23,30 +23,12 @@ abbrev μ-loop : tie.MeasureT-loop
 loop-holds : tie.Need-loop-holds Inv-loop μ-loop
 loop-holds c = (omega arith, omega arith, c .before .before .before .pre .1, λ power t. refl)
 
-add-nearest : tie.Need-add-nearest Inv-loop μ-loop
-add-nearest c = search needs
-
-mul-nearest : tie.Need-mul-nearest Inv-loop μ-loop
-mul-nearest c = search needs
-
-shared-slice-read-nearest : tie.Need-shared-slice-read-nearest Inv-loop μ-loop
-shared-slice-read-nearest c = search needs
-
 cast-nearest : tie.Need-cast-nearest Inv-loop μ-loop
 cast-nearest c = omega (arith, c .shared-slice-known3 .given (c .before .before .loop .a))
 
 nearest-requires : tie.Need-nearest-requires Inv-loop μ-loop
 nearest-requires c κs =
-    ready-next (c .before .before .before .before .before .before .pre .0) (c .before .before .loop .a) (c .before .loop-test .taken)
-
-cast-pos : tie.Need-cast-pos Inv-loop μ-loop
-cast-pos c = search needs
-
-slice-write-pos : tie.Need-slice-write-pos Inv-loop μ-loop
-slice-write-pos c = omega arith
-
-cast-pos-2 : tie.Need-cast-pos-2 Inv-loop μ-loop
-cast-pos-2 c = search needs
+    ready-next (c .before .before .before .before .before .before .pre .0) (c .before .before .loop .a) (c .before .loop-test .taken) (omega arith)
 
 slice-write-pos-2 : tie.Need-slice-write-pos-2 Inv-loop μ-loop
 slice-write-pos-2 c = simp length-set (omega arith)
@@ -60,14 +42,8 @@ returns c power t =
     let i = c .before .before .before .before .loop in
     let b = c .before .nearest .result in
     let l = length (s .args .pow .now) in
-    ap leads (set-two (i .pos) (i .a) b (i .inv .2))
-    ∙ sym (i .inv .3 power t ∙ pair-turn t (i .a) (s .args .u) b (c .before .before .before .loop-test .taken) (c .before .nearest .ensures power t) ∙ rw (lt-ltb b l (c .if1 .taken)))
-
-add-a : tie.Need-add-a Inv-loop μ-loop
-add-a c = search needs
-
-loop-less : tie.Need-loop-less Inv-loop μ-loop
-loop-less c = search needs
+    ap starts (set-two (i .pos) (i .a) b (i .inv .2))
+    ∙ sym (i .inv .3 power t ∙ pair-turn t (i .a) (s .args .u) b (c .before .before .before .loop-test .taken) (omega arith) (c .before .nearest .ensures power t) ∙ rw (lt-ltb b l (c .if1 .taken)))
 
 loop-again : tie.Need-loop-again Inv-loop μ-loop
 loop-again c =
@@ -78,11 +54,8 @@ loop-again c =
       omega arith,
       omega arith,
       i .inv .2,
-      λ power t. i .inv .3 power t ∙ pair-turn t (i .a) (s .args .u) b (c .before .before .before .loop-test .taken) (c .before .nearest .ensures power t) ∙ rw (le-ltb b l (c .if1 .left)),
+      λ power t. i .inv .3 power t ∙ pair-turn t (i .a) (s .args .u) b (c .before .before .before .loop-test .taken) (omega arith) (c .before .nearest .ensures power t) ∙ rw (le-ltb b l (c .if1 .left)),
     )
-
-same-length-2 : tie.Need-same-length-2 Inv-loop μ-loop
-same-length-2 c = omega arith
 
 returns-2 : tie.Need-returns-2 Inv-loop μ-loop
 returns-2 c power t =
@@ -96,19 +69,19 @@ pair-spec =
     Inv-loop
     μ-loop
     loop-holds
-    add-nearest
-    mul-nearest
-    shared-slice-read-nearest
+    (λ c. search needs)
+    (λ c. search needs)
+    (λ c. search needs)
     cast-nearest
     nearest-requires
-    cast-pos
-    slice-write-pos
-    cast-pos-2
+    (λ c. search needs)
+    (λ c. omega arith)
+    (λ c. search needs)
     slice-write-pos-2
     same-length
     returns
-    add-a
-    loop-less
+    (λ c. search needs)
+    (λ c. search needs)
     loop-again
-    same-length-2
+    (λ c. omega arith)
     returns-2)

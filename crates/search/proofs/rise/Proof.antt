@@ -22,9 +22,6 @@ abbrev μ-loop : tie.MeasureT-loop
 loop-holds : tie.Need-loop-holds Inv-loop μ-loop
 loop-holds c = (omega arith, refl, λ power t. refl)
 
-slice-relend-prefix-place : tie.Need-slice-relend-prefix-place Inv-loop μ-loop
-slice-relend-prefix-place c = search needs
-
 slice-aggregate-place : tie.Need-slice-aggregate-place Inv-loop μ-loop
 slice-aggregate-place c = sym (length-take-le (c .before .before .loop .k) (c .before .before .loop .pos) (omega arith))
 
@@ -51,9 +48,6 @@ returns c =
 add-k : tie.Need-add-k Inv-loop μ-loop
 add-k c = omega (arith, c .before .before .before .before .before .before .before .before .before .before .good)
 
-loop-less : tie.Need-loop-less Inv-loop μ-loop
-loop-less c = search needs
-
 loop-again : tie.Need-loop-again Inv-loop μ-loop
 loop-again c =
     let s = c .before .before .before .before .before .before .before .before .before .before in
@@ -65,9 +59,6 @@ loop-again c =
           i .inv .2 power t
           ∙ rise-miss power (length (s .args .pow .now)) (s .args .u) (length (s .args .pos .now)) (i .k) (i .pos) (p .last .1 .1 .1 .1 .1 .0) (p .result) (omega arith) (i .inv .1) (p .kept .1 .1 .1 .1 .1 .0) (p .ensures power t) (c .if1 .left),
     )
-
-same-length-2 : tie.Need-same-length-2 Inv-loop μ-loop
-same-length-2 c = omega arith
 
 returns-2 : tie.Need-returns-2 Inv-loop μ-loop
 returns-2 c =
@@ -91,13 +82,13 @@ rise-spec =
     Inv-loop
     μ-loop
     loop-holds
-    slice-relend-prefix-place
+    (λ c. search needs)
     slice-aggregate-place
     place-requires
     same-length
     returns
     add-k
-    loop-less
+    (λ c. search needs)
     loop-again
-    same-length-2
+    (λ c. omega arith)
     returns-2)

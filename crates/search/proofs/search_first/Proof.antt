@@ -5,12 +5,6 @@ use Rattle.search.proofs.ToldLaws.{told-first}
 use Rattle.search.proofs.search_first.Statement.{statement}
 use Rattle.search.proofs.search_first.Tie as tie
 
-rise-requires : tie.Need-rise-requires
-rise-requires c κs = search needs
-
-same-length : tie.Need-same-length
-same-length c = search needs
-
 returns : tie.Need-returns
 returns c power t =
     let s = c .before .before .before .before .before .before .before in
@@ -18,4 +12,4 @@ returns c power t =
     told-first power (length (s .args .pow .now)) (length (s .args .pos .now)) (s .args .syndrome) (r .result) (r .last .1 .1 .1 .1 .1 .0) (r .ensures .0) (r .ensures .1 power t)
 
 pub search-first-spec : {M : Type 1} → statement M
-search-first-spec = tie.close (tie.spec rise-requires same-length returns)
+search-first-spec = tie.close (tie.spec (λ c κs. search needs) (λ c. search needs) returns)

@@ -2,40 +2,23 @@
 use mathlib.Core.Path.{refl, sym}
 use mathlib.Core.List.{_++_}
 use borrow.Author.Needs.{needs}
+use native.Mathlib.Omega.{arith}
 use lib.ListN.{length, drop}
 use lib.Seq.{length-take-le, length-front}
 use Rattle.search.proofs.ToldLaws.{next-same, next-above}
 use Rattle.search.proofs.search_next.Statement.{statement}
 use Rattle.search.proofs.search_next.Tie as tie
 
-slice-relend-prefix-resume : tie.Need-slice-relend-prefix-resume
-slice-relend-prefix-resume c = search needs
-
 slice-aggregate-resume : tie.Need-slice-aggregate-resume
 slice-aggregate-resume c =
     let s = c .before .before .before .before in
     sym (length-take-le (s .args .count) (s .args .pos .now) (s .pre .1))
-
-resume-requires : tie.Need-resume-requires
-resume-requires c κs = search needs
-
-same-length : tie.Need-same-length
-same-length c = search needs
 
 returns : tie.Need-returns
 returns c power t =
     let s = c .before .before .before .before .before .before .before .before in
     let r = c .before .before .before .resume in
     next-same power (length (s .args .pow .now)) (length (s .args .pos .now)) (s .args .syndrome) (s .args .count) (s .args .pos .now) (r .last .1 .1 .1 .1 .0) (r .result) refl (s .pre .1) (r .kept .1 .1 .1 .1 .0) (r .ensures power t) (c .if1 .taken)
-
-add-rise : tie.Need-add-rise
-add-rise c = search needs
-
-rise-requires : tie.Need-rise-requires
-rise-requires c κs = search needs
-
-same-length-2 : tie.Need-same-length-2
-same-length-2 c = search needs
 
 returns-2 : tie.Need-returns-2
 returns-2 c power t =
@@ -49,6 +32,8 @@ returns-2 c power t =
     (q .last .1 .1 .1 .1 .1 .0)
     (ys ++ drop (s .args .count) (s .args .pos .now))
     (length-front (s .args .pos .now) ys (s .args .count) (r .kept .1 .1 .1 .1 .0))
+    _
+    (omega arith)
     (q .ensures .0)
     (q .ensures .1 power t)
 
@@ -56,12 +41,12 @@ pub search-next-spec : {M : Type 1} → statement M
 search-next-spec =
     tie.close
     (tie.spec
-    slice-relend-prefix-resume
+    (λ c. search needs)
     slice-aggregate-resume
-    resume-requires
-    same-length
+    (λ c κs. search needs)
+    (λ c. search needs)
     returns
-    add-rise
-    rise-requires
-    same-length-2
+    (λ c. search needs)
+    (λ c κs. search needs)
+    (λ c. search needs)
     returns-2)

@@ -5,29 +5,17 @@ use borrow.Author.Needs.{needs}
 use borrow.Author.Tests.{lt-ltb, le-ltb}
 use native.Mathlib.Omega.{arith}
 use lib.ListN.{length}
-use Rattle.search.specs.Search.{leads}
+use Rattle.search.specs.Search.{starts}
 use Rattle.search.proofs.NearestLaws.{nearest-first, set-one}
 use Rattle.search.proofs.single.Statement.{statement}
 use Rattle.search.proofs.single.Tie as tie
-
-nearest-requires : tie.Need-nearest-requires
-nearest-requires c κs = search needs
-
-cast-pos : tie.Need-cast-pos
-cast-pos c = search needs
-
-slice-write-pos : tie.Need-slice-write-pos
-slice-write-pos c = search needs
-
-same-length : tie.Need-same-length
-same-length c = search needs
 
 returns : tie.Need-returns
 returns c power t =
     let s = c .before .before .before .before .before in
     let l = length (s .args .pow .now) in
     let p = c .before .nearest .result in
-    ap leads (set-one (s .args .pos .now) p (s .pre .1))
+    ap starts (set-one (s .args .pos .now) p (s .pre .1))
     ∙ sym (nearest-first power l (s .args .u) p (l - s .args .lo) (s .args .lo) (omega arith) (c .before .nearest .ensures power t) ∙ rw (lt-ltb p l (c .if1 .taken)))
 
 returns-2 : tie.Need-returns-2
@@ -39,4 +27,4 @@ returns-2 c power t =
 
 pub single-spec : {M : Type 1} → statement M
 single-spec =
-    tie.close (tie.spec nearest-requires cast-pos slice-write-pos same-length returns returns-2)
+    tie.close (tie.spec (λ c κs. search needs) (λ c. search needs) (λ c. search needs) (λ c. search needs) returns returns-2)

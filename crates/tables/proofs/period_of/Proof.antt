@@ -4,8 +4,8 @@ use mathlib.Core.List.{List}
 use Prim.Native.Nat.{ℕ, _+_, _<_}
 use native.Mathlib.Omega.{arith}
 use lib.ListN.{length, getD}
-use Rattle.tables.specs.Tables.{step, first, period}
-use Rattle.tables.proofs.LentLaws.{lent-small}
+use Rattle.tables.specs.Tables.{step, period}
+use Rattle.poly.proofs.GeneratorLaws.{fit-small}
 use Rattle.tables.proofs.StepLaws.{step-inverts}
 use Rattle.tables.proofs.TableLaws.{getD-stepTable, getD-firstTable, length-firstTable}
 use Rattle.tables.proofs.FirstLaws.{period-from-tables}
@@ -13,30 +13,30 @@ use Rattle.tables.proofs.period_of.Statement.{statement}
 use Rattle.tables.proofs.period_of.Tie as tie
 
 -- the two look-ups
-record Found (c : tie.Start) : Type 0 where
-  at : getD (c .args .steps .now) 1 0 ≡ step (c .args .g .degree) (c .args .g .bits) 1
+record LookedUp (c : tie.Start) : Type 0 where
+  at : getD (c .args .steps .now) 1 0 ≡ step (c .args .g .degree) (c .args .g .coefficients) 1
   inside : getD (c .args .steps .now) 1 0 < length (c .args .firsts .now)
-  entry : getD (c .args .firsts .now) (getD (c .args .steps .now) 1 0) 0 + 1 ≡ period (c .args .g .degree) (c .args .g .bits)
+  entry : getD (c .args .firsts .now) (getD (c .args .steps .now) 1 0) 0 + 1 ≡ period (c .args .g .degree) (c .args .g .coefficients)
 
-found : (c : tie.Start) → Found c
-found c =
+looked-up : (c : tie.Start) → LookedUp c
+looked-up c =
     let n = c .args .g .degree in
-    let g = c .args .g .bits in
+    let g = c .args .g .coefficients in
     let lent = c .pre .0 in
-    let small = lent-small n g (c .args .steps .now) lent in
-    let low = step-inverts n g (lent .divisor) 1 (omega (arith, lent .full)) .below in
+    let small = fit-small (c .args .g) (lent .fit) in
+    let low = step-inverts n g (lent .fit .divisor) 1 (omega (arith, lent .full)) .below in
     let at = ap (λ (x : List ℕ). getD x 1 0) (c .pre .1 .0) ∙ getD-stepTable n g 1 (omega (arith, lent .full)) in
     record {
       at = at;
       inside = omega (arith, ap length (c .pre .1 .1), length-firstTable n g);
       entry =
           ap (λ (x : ℕ). x + 1) (ap₂ (λ (x : List ℕ) (y : ℕ). getD x y 0) (c .pre .1 .1) at ∙ getD-firstTable n g (step n g 1) low)
-          ∙ period-from-tables n g (lent .divisor) (small .positive);
+          ∙ period-from-tables n g (lent .fit .divisor) (small .positive);
     }
 
 shared-slice-read-t : tie.Need-shared-slice-read-t
 shared-slice-read-t c =
-    let e = c .before in omega (arith, lent-small (e .args .g .degree) (e .args .g .bits) (e .args .steps .now) (e .pre .0))
+    let e = c .before in omega (arith, fit-small (e .args .g) (e .pre .0 .fit))
 
 cast-t : tie.Need-cast-t
 cast-t c = omega (arith, c .shared-slice-known .given 1)
@@ -45,7 +45,7 @@ mul-result : tie.Need-mul-result
 mul-result c = omega (arith, c .shared-slice-known .given 1)
 
 shared-slice-read-result : tie.Need-shared-slice-read-result
-shared-slice-read-result c = found (c .before .before) .inside
+shared-slice-read-result c = looked-up (c .before .before) .inside
 
 cast-result : tie.Need-cast-result
 cast-result c = omega (arith, c .shared-slice-known2 .given (getD (c .before .before .args .steps .now) 1 0))
@@ -54,7 +54,7 @@ add-result : tie.Need-add-result
 add-result c = omega (arith, c .shared-slice-known2 .given (getD (c .before .before .args .steps .now) 1 0))
 
 returns : tie.Need-returns
-returns c = found (c .before .before) .entry
+returns c = omega (arith, looked-up (c .before .before) .entry)
 
 pub period-of-spec : {M : Type 1} → statement M
 period-of-spec =

@@ -7,12 +7,6 @@ use Rattle.tables.proofs.GatherLaws.{or-eqb-zero}
 use Rattle.tables.proofs.verify.Statement.{statement}
 use Rattle.tables.proofs.verify.Tie as tie
 
-wrong-steps-requires : tie.Need-wrong-steps-requires
-wrong-steps-requires c κs = search needs
-
-wrong-firsts-requires : tie.Need-wrong-firsts-requires
-wrong-firsts-requires c κs = search needs
-
 returns : tie.Need-returns
 unfolding rightTables
 returns c =
@@ -20,4 +14,4 @@ returns c =
     ∙ ap₂ (λ (a b : Bool). a && b) (c .before .wrong-steps .ensures) (c .wrong-firsts .ensures)
 
 pub verify-spec : {M : Type 1} → statement M
-verify-spec = tie.close (tie.spec wrong-steps-requires wrong-firsts-requires returns)
+verify-spec = tie.close (tie.spec (λ c κs. search needs) (λ c κs. search needs) returns)

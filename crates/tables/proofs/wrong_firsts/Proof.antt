@@ -4,35 +4,29 @@ use borrow.Author.Needs.{needs}
 use lib.Bits.{bitOr}
 use lib.ListN.{getD}
 use Rattle.tables.specs.Tables.{firstTable}
-use Rattle.tables.proofs.LentLaws.{lent-small}
+use Rattle.poly.proofs.GeneratorLaws.{fit-small}
 use Rattle.tables.proofs.TableLaws.{zero-same}
 use Rattle.tables.proofs.RuleLaws.{first-rules}
 use Rattle.tables.proofs.GatherLaws.{or-zero}
 use Rattle.tables.proofs.wrong_firsts.Statement.{statement}
 use Rattle.tables.proofs.wrong_firsts.Tie as tie
 
-wrong-evens-requires : tie.Need-wrong-evens-requires
-wrong-evens-requires c κs = search needs
-
-wrong-odds-requires : tie.Need-wrong-odds-requires
-wrong-odds-requires c κs = search needs
-
 shared-slice-read-result : tie.Need-shared-slice-read-result
 shared-slice-read-result c =
     let e = c .before .before .before .before in
-    omega (arith, lent-small (e .args .g .degree) (e .args .g .bits) (e .args .firsts .now) (e .pre))
+    omega (arith, fit-small (e .args .g) (e .pre .fit))
 
 returns : tie.Need-returns
 returns c =
     let e = c .before .before .before .before in
     let l = e .args .firsts .now in
     let n = e .args .g .degree in
-    let g = e .args .g .bits in
+    let g = e .args .g .coefficients in
     let evens = c .before .before .wrong-evens .result in
     let odds = c .before .wrong-odds .result in
     let even = c .before .before .wrong-evens .ensures in
     let odd = c .before .wrong-odds .ensures in
-    let rules = first-rules n g (e .pre .divisor) (lent-small n g l (e .pre) .positive) (e .pre .atMost) l (e .pre .full) (λ i. c .shared-slice-known2 .given i .fits) in
+    let rules = first-rules n g (e .pre .fit .divisor) (fit-small (e .args .g) (e .pre .fit) .positive) (e .pre .fit .most) l (e .pre .full) (λ i. c .shared-slice-known2 .given i .fits) in
     let all = or-zero (bitOr evens odds) (getD l 1 0) in
     let two = or-zero evens odds in
     zero-same (bitOr (bitOr evens odds) (getD l 1 0)) l (firstTable n g)
@@ -41,4 +35,4 @@ returns c =
 
 pub wrong-firsts-spec : {M : Type 1} → statement M
 wrong-firsts-spec =
-    tie.close (tie.spec wrong-evens-requires wrong-odds-requires shared-slice-read-result returns)
+    tie.close (tie.spec (λ c κs. search needs) (λ c κs. search needs) shared-slice-read-result returns)

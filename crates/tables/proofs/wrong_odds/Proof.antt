@@ -6,7 +6,7 @@ use borrow.Author.Needs.{needs}
 use lib.Bits.{bitXor}
 use lib.ListN.{length, getD}
 use Rattle.tables.specs.Rule.{later}
-use Rattle.tables.proofs.LentLaws.{lent-small}
+use Rattle.poly.proofs.GeneratorLaws.{fit-small}
 use Rattle.tables.proofs.RuleLaws.{odd-step-lt}
 use Rattle.tables.proofs.GatherLaws.{Gathered, gathered-more, gathered-all, mismatch}
 use Rattle.tables.proofs.wrong_odds.Statement.{statement}
@@ -22,51 +22,30 @@ abbrev μ-loop : tie.MeasureT-loop
 loop-holds : tie.Need-loop-holds Inv-loop μ-loop
 loop-holds c =
     let e = c .before .before in
-    let small = lent-small (e .args .g .degree) (e .args .g .bits) (e .args .firsts .now) (e .pre) in
+    let small = fit-small (e .args .g) (e .pre .fit) in
     (omega arith, omega arith, ((λ z k h p. absurd (omega arith)), (λ h. refl)))
 
-mul-wrong : tie.Need-mul-wrong Inv-loop μ-loop
-mul-wrong c = omega arith
-
-add-wrong : tie.Need-add-wrong Inv-loop μ-loop
-add-wrong c = omega arith
-
-mul-wrong-2 : tie.Need-mul-wrong-2 Inv-loop μ-loop
-mul-wrong-2 c = omega arith
-
-shared-slice-read-wrong : tie.Need-shared-slice-read-wrong Inv-loop μ-loop
-shared-slice-read-wrong c = omega arith
-
 -- the step of the place is a place
-small-step : (c : tie.In-loop Inv-loop μ-loop) → bitXor (c .before .loop .k) (c .before .before .before .before .args .g .bits / 2) < length (c .before .before .before .before .args .firsts .now)
+small-step : (c : tie.In-loop Inv-loop μ-loop) → bitXor (c .before .loop .k) (c .before .before .before .before .args .g .coefficients / 2) < length (c .before .before .before .before .args .firsts .now)
 small-step c =
     let e = c .before .before .before .before in
     let l = e .args .firsts .now in
-    let small = lent-small (e .args .g .degree) (e .args .g .bits) l (e .pre) in
-    odd-step-lt (e .args .g .degree) (e .args .g .bits) (e .pre .divisor) (small .positive) (e .pre .atMost) l (e .pre .full) (c .before .loop .k) (omega arith)
+    let small = fit-small (e .args .g) (e .pre .fit) in
+    odd-step-lt (e .args .g .degree) (e .args .g .coefficients) (e .pre .fit .divisor) (small .positive) (e .pre .fit .most) l (e .pre .full) (c .before .loop .k) (omega arith)
 
 mul-later : tie.Need-mul-later Inv-loop μ-loop
 mul-later c =
     let e = c .before .before .before .before .before in
-    omega (arith, small-step (c .before), lent-small (e .args .g .degree) (e .args .g .bits) (e .args .firsts .now) (e .pre))
+    omega (arith, small-step (c .before), fit-small (e .args .g) (e .pre .fit))
 
 shared-slice-read-later : tie.Need-shared-slice-read-later Inv-loop μ-loop
 shared-slice-read-later c = small-step (c .before .before)
-
-later-requires : tie.Need-later-requires Inv-loop μ-loop
-later-requires c κs = search needs
-
-add-k : tie.Need-add-k Inv-loop μ-loop
-add-k c = omega arith
-
-loop-less : tie.Need-loop-less Inv-loop μ-loop
-loop-less c = omega arith
 
 loop-again : tie.Need-loop-again Inv-loop μ-loop
 loop-again c =
     let at = c .before .before .before .before in
     let l = at .before .before .before .args .firsts .now in
-    let half = at .before .before .before .args .g .bits / 2 in
+    let half = at .before .before .before .args .g .coefficients / 2 in
     let k = at .loop .k in
     let same = mismatch (getD l (k * 2 + 1) 0) (c .later .result) (later (getD l (bitXor k half) 0)) (c .later .ensures) in (
       omega arith,
@@ -80,7 +59,7 @@ returns : tie.Need-returns Inv-loop μ-loop
 returns c =
     let e = c .before .before .before .before in
     let l = e .args .firsts .now in
-    gathered-all (λ j. 1 ≤ j → getD l (j * 2 + 1) 0 ≡ later (getD l (bitXor j (e .args .g .bits / 2)) 0)) (c .before .loop .k) (length l / 2) (c .before .loop .wrong) (omega arith) (c .before .loop .inv .2)
+    gathered-all (λ j. 1 ≤ j → getD l (j * 2 + 1) 0 ≡ later (getD l (bitXor j (e .args .g .coefficients / 2)) 0)) (c .before .loop .k) (length l / 2) (c .before .loop .wrong) (omega arith) (c .before .loop .inv .2)
 
 pub wrong-odds-spec : {M : Type 1} → statement M
 wrong-odds-spec =
@@ -89,14 +68,14 @@ wrong-odds-spec =
     Inv-loop
     μ-loop
     loop-holds
-    mul-wrong
-    add-wrong
-    mul-wrong-2
-    shared-slice-read-wrong
+    (λ c. omega arith)
+    (λ c. omega arith)
+    (λ c. omega arith)
+    (λ c. omega arith)
     mul-later
     shared-slice-read-later
-    later-requires
-    add-k
-    loop-less
+    (λ c κs. search needs)
+    (λ c. omega arith)
+    (λ c. omega arith)
     loop-again
     returns)

@@ -6,7 +6,7 @@ use native.Mathlib.Omega.{arith}
 use lib.Bits.{bitXor}
 use lib.ListN.{length, getD}
 use Rattle.tables.specs.Tables.{stepTable}
-use Rattle.tables.proofs.LentLaws.{lent-small}
+use Rattle.poly.proofs.GeneratorLaws.{fit-small}
 use Rattle.tables.proofs.TableLaws.{zero-same}
 use Rattle.tables.proofs.RuleLaws.{step-rule}
 use Rattle.tables.proofs.GatherLaws.{Gathered, gathered-none, gathered-more, gathered-all, mismatch, or-zero}
@@ -21,46 +21,19 @@ abbrev μ-loop : tie.MeasureT-loop
 μ-loop steps half wrong₀ k₀ wrong k = length steps - k
 
 cast-half : tie.Need-cast-half Inv-loop μ-loop
-cast-half c = record { fits = lent-small _ _ _ (c .before .pre) .half }
+cast-half c = record { fits = fit-small _ (c .before .pre .fit) .half }
 
 loop-holds : tie.Need-loop-holds Inv-loop μ-loop
 loop-holds c = (omega arith, gathered-none _)
 
 cast-t : tie.Need-cast-t Inv-loop μ-loop
-cast-t c = omega (arith, lent-small _ _ _ (c .before .before .before .pre))
-
-mul-wrong : tie.Need-mul-wrong Inv-loop μ-loop
-mul-wrong c = omega arith
-
-mul-wrong-2 : tie.Need-mul-wrong-2 Inv-loop μ-loop
-mul-wrong-2 c = omega arith
-
-shared-slice-read-wrong : tie.Need-shared-slice-read-wrong Inv-loop μ-loop
-shared-slice-read-wrong c = omega arith
-
-mul-wrong-3 : tie.Need-mul-wrong-3 Inv-loop μ-loop
-mul-wrong-3 c = omega arith
-
-add-wrong : tie.Need-add-wrong Inv-loop μ-loop
-add-wrong c = omega arith
-
-mul-wrong-4 : tie.Need-mul-wrong-4 Inv-loop μ-loop
-mul-wrong-4 c = omega arith
-
-shared-slice-read-wrong-2 : tie.Need-shared-slice-read-wrong-2 Inv-loop μ-loop
-shared-slice-read-wrong-2 c = omega arith
-
-add-k : tie.Need-add-k Inv-loop μ-loop
-add-k c = omega arith
-
-loop-less : tie.Need-loop-less Inv-loop μ-loop
-loop-less c = omega arith
+cast-t c = omega (arith, fit-small _ (c .before .before .before .pre .fit))
 
 loop-again : tie.Need-loop-again Inv-loop μ-loop
 loop-again c =
     let at = c .before .before .before in
     let l = at .before .before .args .steps .now in
-    let half = at .before .before .args .g .bits / 2 in
+    let half = at .before .before .args .g .coefficients / 2 in
     let k = at .loop .k in
     let even = mismatch (getD l (k * 2) 0) k k refl in
     let odd = mismatch (getD l (k * 2 + 1) 0) (bitXor k half) (bitXor k half) refl in
@@ -75,9 +48,9 @@ returns c =
     let e = c .before .before .before in
     let l = e .args .steps .now in
     let n = e .args .g .degree in
-    let g = e .args .g .bits in
+    let g = e .args .g .coefficients in
     let all = gathered-all (λ j. (getD l (j * 2) 0 ≡ j) × (getD l (j * 2 + 1) 0 ≡ bitXor j (g / 2))) (c .before .loop .k) (length l / 2) (c .before .loop .wrong) (omega arith) (c .before .loop .inv .1) in
-    let rule = step-rule n g (e .pre .divisor) (lent-small n g l (e .pre) .positive) (e .pre .atMost) l (e .pre .full) in
+    let rule = step-rule n g (e .pre .fit .divisor) (fit-small (e .args .g) (e .pre .fit) .positive) (e .pre .fit .most) l (e .pre .full) in
     zero-same (c .before .loop .wrong) l (stepTable n g) (λ z. rule .0 (all .0 z)) (λ h. all .1 (rule .1 h))
 
 pub wrong-steps-spec : {M : Type 1} → statement M
@@ -89,14 +62,14 @@ wrong-steps-spec =
     cast-half
     loop-holds
     cast-t
-    mul-wrong
-    mul-wrong-2
-    shared-slice-read-wrong
-    mul-wrong-3
-    add-wrong
-    mul-wrong-4
-    shared-slice-read-wrong-2
-    add-k
-    loop-less
+    (λ c. omega arith)
+    (λ c. omega arith)
+    (λ c. omega arith)
+    (λ c. omega arith)
+    (λ c. omega arith)
+    (λ c. omega arith)
+    (λ c. omega arith)
+    (λ c. omega arith)
+    (λ c. omega arith)
     loop-again
     returns)

@@ -1,0 +1,141 @@
+//! What repairs make of damage that is greater than their limit: `cargo run --release --example trials`.
+//!
+//! First, packets of noise. Nothing was sent that they could be repaired to, so every repair of one is false. Beside the
+//! count stands the estimate that can be made without a trial: the sets of at most N positions, divided by 2^16 (the CRC)
+//! and by 65,535 (the checksum), are those expected to pass.
+//!
+//! Then packets that were stamped and sealed, with some bits flipped: how many are repaired to what was sent, and how many
+//! to something else.
+
+use rangqoda::{seal, stamp, Refusal, Tables, Verdict, CCITT};
+
+/// How many sets of at most `limit` positions there are among `bits`.
+fn sets_of_at_most(limit: usize, bits: usize) -> f64 {
+    let mut sets = 1.0;
+    let mut all = 1.0;
+    for count in 1..=limit {
+        sets *= (bits + 1 - count) as f64 / count as f64;
+        all += sets;
+    }
+    all
+}
+
+/// The next 64 random bits, by splitmix64, which is linear neither over bits, as the CRC is, nor over whole numbers, as the
+/// checksum is.
+fn random(state: &mut u64) -> u64 {
+    *state = state.wrapping_add(0x9E3779B97F4A7C15);
+    let mut mixed = *state;
+    mixed = (mixed ^ (mixed >> 30)).wrapping_mul(0xBF58476D1CE4E5B9);
+    mixed = (mixed ^ (mixed >> 27)).wrapping_mul(0x94D049BB133111EB);
+    mixed ^ (mixed >> 31)
+}
+
+fn random_bytes(bytes: usize, state: &mut u64) -> Vec<u8> {
+    (0..bytes / 8).flat_map(|_| random(state).to_be_bytes()).collect()
+}
+
+/// The packet with `flips` different bits flipped.
+fn damaged(packet: &[u8], flips: usize, state: &mut u64) -> Vec<u8> {
+    let mut flipped = packet.to_vec();
+    let mut left = flips;
+    while left > 0 {
+        let bit = random(state) as usize % (8 * packet.len());
+        let mask = 0x80 >> (bit % 8);
+        if (flipped[bit / 8] ^ packet[bit / 8]) & mask == 0 {
+            flipped[bit / 8] ^= mask;
+            left -= 1;
+        }
+    }
+    flipped
+}
+
+fn noise(tables: &Tables, bytes: usize, limit: usize, trials: usize) -> Result<(), Refusal> {
+    let mut state = 1;
+    let mut copy = vec![0; bytes];
+    let (mut repaired, mut several) = (0, 0);
+    for _ in 0..trials {
+        let packet = random_bytes(bytes, &mut state);
+        match tables.repair(0..bytes - 2, limit, &packet, &mut copy)? {
+            Verdict::Repaired(_) => repaired += 1,
+            Verdict::Several { .. } => several += 1,
+            Verdict::Intact | Verdict::None => {}
+        }
+    }
+    let expected = sets_of_at_most(limit, 8 * bytes) / 65536.0 / 65535.0;
+    println!("{bytes:>5} {limit:>2} {expected:>16.9} {trials:>8} {repaired:>8} {several:>8}");
+    Ok(())
+}
+
+fn flips(tables: &Tables, bytes: usize, limit: usize, flips: usize, trials: usize) -> Result<(), Refusal> {
+    let mut state = 1;
+    let mut copy = vec![0; bytes];
+    let (mut rightly, mut falsely, mut several, mut none) = (0, 0, 0, 0);
+    for _ in 0..trials {
+        let mut sent = random_bytes(bytes, &mut state);
+        stamp(CCITT, 0..bytes - 2, 0, &mut sent)?;
+        seal(CCITT, &mut sent)?;
+        let received = damaged(&sent, flips, &mut state);
+        match tables.repair(0..bytes - 2, limit, &received, &mut copy)? {
+            Verdict::Repaired(_) if copy == sent => rightly += 1,
+            Verdict::Repaired(_) | Verdict::Intact => falsely += 1,
+            Verdict::Several { .. } => several += 1,
+            Verdict::None => none += 1,
+        }
+    }
+    println!("{bytes:>5} {limit:>2} {flips:>6} {trials:>8} {rightly:>8} {falsely:>8} {several:>8} {none:>8}");
+    Ok(())
+}
+
+fn run() -> Result<(), Refusal> {
+    let tables = Tables::new(CCITT)?;
+    println!("Noise\nbytes  N expected to pass   trials repaired  several");
+    for (bytes, limit, trials) in [
+        (16, 3, 100_000),
+        (16, 4, 20_000),
+        (64, 2, 400_000),
+        (64, 3, 20_000),
+        (64, 4, 500),
+        (512, 2, 20_000),
+        (512, 3, 500),
+    ] {
+        noise(&tables, bytes, limit, trials)?;
+    }
+    println!("\nFlipped bits\nbytes  N  flips   trials  rightly  falsely  several     none");
+    for (bytes, limit, flipped, trials) in [
+        (16, 2, 1, 20_000),
+        (16, 2, 2, 20_000),
+        (16, 2, 3, 100_000),
+        (16, 2, 4, 100_000),
+        (16, 2, 6, 100_000),
+        (64, 1, 1, 20_000),
+        (64, 1, 3, 100_000),
+        (64, 2, 1, 20_000),
+        (64, 2, 2, 20_000),
+        (64, 2, 3, 100_000),
+        (64, 2, 4, 100_000),
+        (64, 2, 6, 100_000),
+        (64, 3, 1, 2_000),
+        (64, 3, 2, 2_000),
+        (64, 3, 3, 2_000),
+        (64, 3, 4, 2_000),
+        (64, 3, 5, 2_000),
+        (64, 4, 1, 200),
+        (64, 4, 4, 200),
+        (512, 1, 1, 10_000),
+        (512, 1, 3, 10_000),
+        (512, 2, 1, 10_000),
+        (512, 2, 2, 10_000),
+        (512, 2, 3, 10_000),
+        (512, 2, 4, 10_000),
+    ] {
+        flips(&tables, bytes, limit, flipped, trials)?;
+    }
+    Ok(())
+}
+
+fn main() {
+    if let Err(refusal) = run() {
+        eprintln!("{refusal}");
+        std::process::exit(1);
+    }
+}

@@ -1,0 +1,36 @@
+-- Members of a list, what holds of every member, and ascending numbers.
+use mathlib.Core.List.{List, []}
+use Prim.Native.Nat.{ℕ, zero, suc, _+_, _<_, _≤_}
+use native.Mathlib.Omega.{arith}
+use lib.ListN.{length, getD}
+use Rattle.base.specs.Lists.{In, All, none, each, Ascending, ends, next}
+
+pub in-nothing : {A : Type 0} {a : A} → In a [] → ⊥
+in-nothing h = elim h [ ]
+
+pub all-at : {l : ℕ} {ps : List ℕ} → All (λ (p : ℕ). p < l) ps → (i : ℕ) → i < length ps → getD ps i 0 < l
+all-at none i h = absurd (omega arith)
+all-at (each k ks) zero h = k
+all-at (each k ks) (suc i) h = all-at ks i (omega arith)
+
+-- ---- ascending numbers ----
+
+pub ascending-from : {l from : ℕ} {ps : List ℕ} (to : ℕ) → to ≤ from → Ascending l from ps → Ascending l to ps
+ascending-from to h ends = ends
+ascending-from to h (next {p = p} a b c) = let e : to ≤ p = omega arith in next e b c
+
+pub ascending-all : {l from : ℕ} {ps : List ℕ} → Ascending l from ps → All (λ (p : ℕ). p < l) ps
+ascending-all ends = none
+ascending-all (next h k a) = each k (ascending-all a)
+
+pub ascending-above : {l from : ℕ} {ps : List ℕ} (to : ℕ) → to ≤ from → Ascending l from ps → All (λ (p : ℕ). to ≤ p) ps
+ascending-above to h ends = none
+ascending-above to h (next {p = p} j k a) = let e : to ≤ p = omega arith in each e (ascending-above to (omega arith) a)
+
+pub ascending-at : {l from : ℕ} {ps : List ℕ} → Ascending l from ps → (i : ℕ) → i < length ps → getD ps i 0 < l
+ascending-at h = all-at (ascending-all h)
+
+-- there are no more of them than numbers below l
+pub ascending-length : {l from : ℕ} {ps : List ℕ} → Ascending l from ps → from ≤ l → from + length ps ≤ l
+ascending-length ends h = omega arith
+ascending-length (next j k a) h = omega (arith, ascending-length a k)

@@ -1,0 +1,87 @@
+-- The tables of a generator serve the search: its powers are those of x, and its list is the listing.
+use mathlib.Core.Path.{_≡_, sym, ap, subst, _∙_}
+use mathlib.Core.List.{List, [], _∷_}
+use Prim.Native.Nat.{ℕ, _^_, _<_, _≤_}
+use native.Mathlib.Omega.{arith}
+use native.Mathlib.Nat.{zero-add}
+use lib.Bits.{bitXor}
+use lib.Dec.{eqb}
+use lib.ListN.{length, getD}
+use Rattle.poly.specs.Polynomial.{rem, powers}
+use Rattle.poly.specs.Fit.{Divisor}
+use Rattle.poly.specs.declared.Generator.{Generator}
+use Rattle.poly.proofs.DivisionLaws.{rem-zero, rem-xor}
+use Rattle.tables.specs.Tables.{power, values, first}
+use Rattle.tables.proofs.PowerLaws.{power-lt}
+use Rattle.tables.proofs.PeriodLaws.{period-positive, power-again, power-only}
+use Rattle.tables.proofs.FirstLaws.{first-hit, first-least}
+use Rattle.tables.proofs.TableLaws.{length-values, getD-values, length-firstTable, getD-firstTable}
+use Rattle.patterns.specs.Listing.{syndrome, listing, upTo}
+use Rattle.patterns.proofs.SiftLaws.{sift-same}
+use Rattle.search.specs.Search.{xorAll, summing, listed, Told}
+use Rattle.search.specs.declared.Found.{Found}
+use Rattle.cursor.specs.Cursors.{cursorOf, Listable, Prepared}
+
+-- the syndrome of a set of positions is the sum of their powers
+syndrome-sum : (n g : ℕ) → Divisor n g → (ps : List ℕ) → syndrome n g ps ≡ xorAll (power n g) ps
+unfolding syndrome powers xorAll power
+syndrome-sum n g d [] = rem-zero n g
+syndrome-sum n g d (p ∷ ps) = rem-xor n g (d .low) (d .high) (2 ^ p) (powers ps) ∙ ap (bitXor (rem n g (2 ^ p))) (syndrome-sum n g d ps)
+
+listing-listed : (n g : ℕ) → Divisor n g → (l limit s : ℕ) → listing n g l limit s ≡ listed (power n g) l limit s
+unfolding listing listed summing
+listing-listed n g d l limit s =
+    sift-same (λ ps. eqb (syndrome n g ps) s) (λ ps. eqb (xorAll (power n g) ps) s) (upTo l limit)
+    (λ ps h. ap (λ (x : ℕ). eqb x s) (syndrome-sum n g d ps))
+
+-- a search over the powers of the generator tells of the listing
+pub told-listing : (n g : ℕ) → Divisor n g → (l limit s : ℕ) (ahead : List (List ℕ) → List (List ℕ)) (r : Found) (pos : List ℕ)
+    → Told l limit (listed (power n g) l limit s) (ahead (listed (power n g) l limit s)) r pos
+    → Told l limit (listing n g l limit s) (ahead (listing n g l limit s)) r pos
+told-listing n g d l limit s ahead r pos h =
+    subst (λ (xs : List (List ℕ)). Told l limit xs (ahead xs) r pos) (sym (listing-listed n g d l limit s)) h
+
+-- powers filled in and tables that are right serve a cursor
+module _ (g : Generator) (s l : ℕ) (pow steps firsts : List ℕ) (h : Listable g l s steps firsts) (filled : pow ≡ values (power (g .degree) (g .coefficients)) l 0) where
+  full : length firsts ≡ 2 ^ g .degree
+  full = ap length (h .rightFirsts) ∙ length-firstTable (g .degree) (g .coefficients)
+
+  long : length pow ≡ l
+  long = ap length filled ∙ length-values (power (g .degree) (g .coefficients)) l 0
+
+  known : (p : ℕ) → p < length pow → getD pow p 0 ≡ power (g .degree) (g .coefficients) p
+  known p k =
+      ap (λ (t : List ℕ). getD t p 0) filled
+      ∙ getD-values (power (g .degree) (g .coefficients)) l 0 p (omega (arith, long)) ∙ ap (power (g .degree) (g .coefficients)) (zero-add p)
+
+  entry : (t : ℕ) → t < 2 ^ g .degree → getD firsts t 0 ≡ first (g .degree) (g .coefficients) t
+  entry t k = ap (λ (xs : List ℕ). getD xs t 0) (h .rightFirsts) ∙ getD-firstTable (g .degree) (g .coefficients) t k
+
+  pub prepared : Prepared (cursorOf g s) pow firsts
+  prepared =
+      let n : ℕ = g .degree in
+      let b : ℕ = g .coefficients in
+      let d = h .fit .divisor in
+      let one : 1 ≤ n = omega (arith, h .fit .least) in
+      record {
+        fit = h .fit;
+        ready =
+            record {
+              n = n;
+              shape = record { short = omega (arith, long, h .short); inside = λ p k. rw (known p k) (power-lt n b d p) };
+              index = record { full = full; positive = period-positive n b d one };
+              start = omega arith;
+              sum = h .within;
+            };
+        lookup =
+            record {
+              known = known;
+              firsts =
+                  record {
+                    hit = λ t k e. rw (entry t (omega (arith, full))) (first-hit n b d one t (omega (arith, full)) (rw (entry t (omega (arith, full))) at e));
+                    least = λ p. rw (entry (power n b p) (power-lt n b d p)) (first-least n b d one p);
+                    again = power-again n b d one;
+                    only = power-only n b d one;
+                  };
+            };
+      }

@@ -1,0 +1,24 @@
+-- `advance` is the search from positions in front of a slice, for the powers of the generator.
+use mathlib.Core.List.{List}
+use Prim.Native.Nat.{ℕ}
+use borrow.Author.Needs.{needs}
+use lib.ListN.{length, take}
+use Rattle.tables.specs.Tables.{power}
+use Rattle.patterns.specs.Order.{before}
+use Rattle.patterns.specs.Listing.{sift}
+use Rattle.cursor.proofs.LookupLaws.{told-listing}
+use Rattle.cursor.proofs.advance.Statement.{statement}
+use Rattle.cursor.proofs.advance.Tie as tie
+
+returns : tie.Need-returns
+returns c =
+    let f = c .before .before in
+    let s = f .before .before .before .before .before in
+    let g = s .args .cursor .generator in
+    let q : List ℕ = take (s .args .count) (s .args .pos .now) in
+    told-listing (g .degree) (g .coefficients) (s .pre .0 .fit .divisor) (length (s .args .pow .now)) (length (s .args .pos .now)) (s .args .cursor .syndrome)
+    (λ (xs : List (List ℕ)). sift (before q) xs) (f .search-next .result) (f .search-next .last .1 .1 .1 .1 .0)
+    (f .search-next .ensures (power (g .degree) (g .coefficients)) (s .pre .0 .lookup))
+
+pub advance-spec : {M : Type 1} → statement M
+advance-spec = tie.close (tie.spec (λ c κs. search needs) (λ c. search needs) returns)

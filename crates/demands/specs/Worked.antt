@@ -1,0 +1,55 @@
+-- The rows worked by hand (docs/RULES.md, section 11), a line for each, in that order.
+use Prim.Native.Nat.{ℕ}
+use mathlib.Core.Path.{_≡_}
+use mathlib.Core.List.{List, [], _∷_}
+use Rattle.poly.specs.Polynomial.{degree, rem}
+use Rattle.poly.specs.Generators.{generatorOf, five}
+use Rattle.poly.specs.declared.Generator.{Generator}
+use Rattle.packet.specs.Packet.{crcOf}
+use Rattle.tables.specs.Tables.{period, step, first}
+use Rattle.checksum.specs.Checksum.{sumOf, checkOf}
+use Rattle.checksum.specs.declared.Check.{Check}
+use Rattle.patterns.specs.Patterns.{after}
+use Rattle.patterns.specs.Listing.{listing}
+use Rattle.patterns.specs.Marks.{remaining}
+use Rattle.repair.specs.Verdicts.{packetList, intact, repaired, several, nothing, verdict}
+
+-- the list for a generator, L, N and a syndrome
+abbrev pub listOf : Generator → ℕ → ℕ → ℕ → List (List ℕ)
+listOf g l limit s = listing (g .degree) (g .coefficients) l limit s
+
+-- the range [0, 2)
+abbrev pub firstTwo : Check
+firstTwo = checkOf 0 2
+
+-- bits are given as the digits of a number, packets as their bytes; a verdict is the same whatever pattern is named,
+-- but for the pattern of Several, and Intact is at every N
+pub record Worked : Type 0 where
+  -- generator 9, bits 101110000: remainder 3
+  pub row1 : rem (degree 9) 9 0b101110000 ≡ 3
+  -- generator 11, bits 1100010; 1101010: 0; 3
+  pub row2 : (rem (degree 11) 11 0b1100010 ≡ 0) × (rem (degree 11) 11 0b1101010 ≡ 3)
+  -- 11, L 5, N 1, syndrome 6: {4}
+  pub row3 : listOf (generatorOf 11) 5 1 6 ≡ (4 ∷ []) ∷ []
+  -- five: period; step 1; first 26; first 3: 15; 26; 14; 65535
+  pub row4 : (period (five .degree) (five .coefficients) ≡ 15) × (step (five .degree) (five .coefficients) 1 ≡ 26) × (first (five .degree) (five .coefficients) 26 ≡ 14) × (first (five .degree) (five .coefficients) 3 ≡ 65535)
+  -- five, N 2, syndrome 1, L 15; L 16: {0}; {0},{15}
+  pub row5 : (listOf five 15 2 1 ≡ (0 ∷ []) ∷ []) × (listOf five 16 2 1 ≡ (0 ∷ []) ∷ (15 ∷ []) ∷ [])
+  -- five, N 2, syndrome 3, L 7; L 8: {0,1}; {0,1},{3,7}
+  pub row6 : (listOf five 7 2 3 ≡ (0 ∷ 1 ∷ []) ∷ []) × (listOf five 8 2 3 ≡ (0 ∷ 1 ∷ []) ∷ (3 ∷ 7 ∷ []) ∷ [])
+  -- five, N 2, syndrome 0, L 15; L 16: {}; {},{0,15}
+  pub row7 : (listOf five 15 2 0 ≡ [] ∷ []) × (listOf five 16 2 0 ≡ [] ∷ (0 ∷ 15 ∷ []) ∷ [])
+  -- five, N 2, syndrome 30, L 9: {0,6},{3,8},{5,7}
+  pub row8 : listOf five 9 2 30 ≡ (0 ∷ 6 ∷ []) ∷ (3 ∷ 8 ∷ []) ∷ (5 ∷ 7 ∷ []) ∷ []
+  -- the same after mark {1,2}: {3,8},{5,7}
+  pub row9 : remaining (listOf five 9 2 30) (after (1 ∷ 2 ∷ [])) ≡ (3 ∷ 8 ∷ []) ∷ (5 ∷ 7 ∷ []) ∷ []
+  -- sum of 00 01 F2 03 F4 F5 F6 F7: DDF2h
+  pub row10 : sumOf (0x00 ∷ 0x01 ∷ 0xF2 ∷ 0x03 ∷ 0xF4 ∷ 0xF5 ∷ 0xF6 ∷ 0xF7 ∷ []) ≡ 0xDDF2
+  -- five, range [0,2), FF FF 05: Intact
+  pub row11 : (limit : ℕ) (named : List ℕ) → verdict (crcOf 53) firstTwo limit (0xFF ∷ 0xFF ∷ 0x05 ∷ []) named ≡ intact
+  -- 7F FF 05, N 1: lists {8},{23}; Repaired {23}
+  pub row12 : (packetList (crcOf 53) 1 (0x7F ∷ 0xFF ∷ 0x05 ∷ []) ≡ (8 ∷ []) ∷ (23 ∷ []) ∷ [])
+      × ((named : List ℕ) → verdict (crcOf 53) firstTwo 1 (0x7F ∷ 0xFF ∷ 0x05 ∷ []) named ≡ repaired (23 ∷ []))
+  -- FF FF 06, N 1; N 2: None; Several, 2
+  pub row13 : ((named : List ℕ) → verdict (crcOf 53) firstTwo 1 (0xFF ∷ 0xFF ∷ 0x06 ∷ []) named ≡ nothing)
+      × ((named : List ℕ) → verdict (crcOf 53) firstTwo 2 (0xFF ∷ 0xFF ∷ 0x06 ∷ []) named ≡ several 2 named)

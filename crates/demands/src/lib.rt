@@ -1,0 +1,2 @@
+// No code: the demands as theorems about the calls (proofs/Demand2.antt, proofs/Demand3.antt) and the rows worked by hand
+// (proofs/WorkedRows.antt), with the definitions that only they need in specs/.

@@ -1,0 +1,3 @@
+pub mod PrintedLaws
+pub mod PrintedRows
+pub mod TurnLaws

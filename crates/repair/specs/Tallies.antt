@@ -1,0 +1,44 @@
+-- What the inner functions of a repair ask and tell.
+use mathlib.Core.Path.{_≡_}
+use mathlib.Core.Bool.{Bool, true, false}
+use mathlib.Core.List.{List, [], _∷_}
+use Prim.Native.Nat.{ℕ, _≤_}
+use lib.ListN.{length}
+use Rattle.poly.specs.Fit.{Fit}
+use Rattle.packet.specs.Packet.{Bytes}
+use Rattle.packet.specs.declared.Crc.{Crc}
+use Rattle.checksum.specs.declared.Check.{Check}
+use Rattle.tables.specs.Tables.{stepTable, firstTable}
+use Rattle.patterns.specs.Patterns.{mostPositions, positions}
+use Rattle.repair.specs.Verdicts.{Said, candidates, verdict}
+use Rattle.repair.specs.declared.Tally.{Tally}
+
+-- the first of some patterns, and the empty one where there is none
+abbrev pub earliest : List (List ℕ) → List ℕ
+earliest [] = []
+earliest (p ∷ ps) = p
+
+-- the verdict, which names the earliest of several
+abbrev pub firstVerdict : Crc → Check → ℕ → List ℕ → Said
+firstVerdict c k limit s = verdict c k limit s (earliest (candidates c k limit s))
+
+-- a tally of some patterns: how many there are, and the first
+pub record Tallied (kept : List (List ℕ)) (t : Tally) : Type 0 where
+  pub number : t .count ≡ length kept
+  pub first : positions (t .chosen) ≡ earliest kept
+
+-- a pattern that is counted, or not
+abbrev pub added : Bool → List ℕ → List (List ℕ)
+added true p = p ∷ []
+added false p = []
+
+-- a packet whose conditions are all past
+pub record Settleable (c : Crc) (k : Check) (limit : ℕ) (steps firsts packet : List ℕ) : Type 0 where
+  pub fit : Fit (c .generator)
+  pub bytes : Bytes packet
+  pub short : length packet ≤ 512
+  pub few : limit ≤ mostPositions
+  pub ordered : k .from ≤ k .to
+  pub inside : k .to ≤ length packet
+  pub rightSteps : steps ≡ stepTable (c .generator .degree) (c .generator .coefficients)
+  pub rightFirsts : firsts ≡ firstTable (c .generator .degree) (c .generator .coefficients)

@@ -1,0 +1,54 @@
+"""What the scripts that write test vectors share: a reading of docs/RULES.md on Python's integers, with nothing taken from
+the library."""
+from functools import cache
+
+FIVE, CCITT = 53, 0x11021
+
+
+def degree_of(generator):
+    return generator.bit_length() - 1
+
+
+def divide(value, generator):
+    """The remainder of a binary polynomial: the generator is taken away below each one that is too high."""
+    degree = degree_of(generator)
+    for place in range(value.bit_length() - 1, degree - 1, -1):
+        if value >> place & 1:
+            value ^= generator << (place - degree)
+    return value
+
+
+def unfit_generator(generator):
+    """Condition 1."""
+    return generator % 2 == 0 or not 3 <= degree_of(generator) <= 16
+
+
+def unfit_length(generator, bits):
+    """Condition 2."""
+    return not degree_of(generator) < bits <= 4096
+
+
+def checksum(data):
+    """RFC 1071: big-endian words, a zero byte at an odd end, the carries folded back."""
+    data = bytes(data) + bytes(len(data) % 2)
+    total = sum(data[i] * 256 + data[i + 1] for i in range(0, len(data), 2))
+    while total > 0xFFFF:
+        total = total % 0x10000 + total // 0x10000
+    return total
+
+
+@cache
+def filled(length, seed):
+    """The bytes of a test packet: the top eight bits of each 32-bit state after the seed."""
+    out = bytearray()
+    for _ in range(length):
+        seed = (1664525 * seed + 1013904223) % 2**32
+        out.append(seed >> 24)
+    return bytes(out)
+
+
+def fnv(data, before=2166136261):
+    """The 32-bit FNV-1a hash, carried on from the bytes before."""
+    for byte in data:
+        before = (before ^ byte) * 16777619 % 2**32
+    return before
