@@ -1,5 +1,5 @@
 // Lists the error patterns that one line of input asks for, "generator L N syndrome". What is printed for an input is the
-// definition `printed` of the crate lister; here bytes are moved, and nothing else is done.
+// definition `Prints` of the crate lister; here bytes are moved, and nothing else is done.
 use libc::STDIN_FILENO;
 use libc::STDOUT_FILENO;
 use lister::Due;

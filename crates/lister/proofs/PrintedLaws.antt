@@ -1,6 +1,7 @@
 -- What the program prints, by the form of a line alone: for a line of four numbers what these come to, and "bad line" for
 -- any other input; and that as many bytes of the input as a line may have, and one more, decide it.
 use mathlib.Core.Path.{_≡_, refl, sym, ap, subst, _∙_}
+use mathlib.Core.Bool.{true≢false}
 use mathlib.Core.List.{List, [], _∷_}
 use Prim.Native.Nat.{ℕ, _*_, _<_, _≤_}
 use native.Mathlib.Omega.{arith}
@@ -11,7 +12,8 @@ use Rattle.lines.specs.Input.{closing, IsLine, no-more, one-more}
 use Rattle.lines.specs.Text.{badLine}
 use Rattle.lines.specs.Parsing.{numbersIn, wholeLine}
 use Rattle.lines.proofs.InputLaws.{line-read, read-line}
-use Rattle.lister.specs.Printed.{printedFor, printed}
+use Rattle.lister.specs.Printed.{printedFor, Prints, for-line, for-other}
+use Rattle.lister.specs.Turns.{printed}
 
 pub printed-line : (input : List ℕ) (g l n s : ℕ) → IsLine (g ∷ l ∷ n ∷ s ∷ []) input → printed input ≡ printedFor g l n s
 printed-line input g l n s h = let r = line-read h in rw (r .0, r .1)
@@ -32,6 +34,15 @@ four-of (a ∷ b ∷ c ∷ d ∷ e ∷ ns) h = absurd (omega arith)
 pub sets-four : (ns : List ℕ) → length ns ≡ 4 → sets (0 ∷ 0 ∷ 0 ∷ 0 ∷ []) 0 ns ≡ ns
 sets-four ns h = ap (sets (0 ∷ 0 ∷ 0 ∷ 0 ∷ []) 0) (four-of ns h) ∙ sym (four-of ns h)
 
+-- what is computed is what is to be printed
+pub printed-prints : (input : List ℕ) → Prints input (printed input)
+printed-prints input =
+    by-test (wholeLine 4 input)
+    (λ e.
+    let r = read-line 4 input e in
+    rw e (for-line _ _ _ _ (subst (λ (ns : List ℕ). IsLine ns input) (four-of (numbersIn 4 input) (r .0)) (r .1))))
+    (λ e. rw e (for-other (λ g l n s h. true≢false (sym (line-read h .0) ∙ e))))
+
 pub printed-bad : (input : List ℕ) → ((g l n s : ℕ) → IsLine (g ∷ l ∷ n ∷ s ∷ []) input → ⊥) → printed input ≡ badLine
 printed-bad input none =
     by-test (wholeLine 4 input)
@@ -39,6 +50,11 @@ printed-bad input none =
     let r = read-line 4 input e in
     absurd (none _ _ _ _ (subst (λ (ns : List ℕ). IsLine ns input) (four-of (numbersIn 4 input) (r .0)) (r .1))))
     (λ e. rw e)
+
+-- and nothing else is to be printed
+pub prints-only : {input text : List ℕ} → Prints input text → text ≡ printed input
+prints-only {input} (for-line g l n s h) = sym (printed-line input g l n s h)
+prints-only {input} (for-other none) = sym (printed-bad input none)
 
 -- a line of so many numbers has at most ten bytes for each
 line-short : {vs input : List ℕ} → IsLine vs input → length input ≤ 10 * length vs

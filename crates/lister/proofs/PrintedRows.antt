@@ -9,7 +9,8 @@ use Rattle.patterns.specs.Listing.{syndrome, choose, upTo, sift, listing, unfit
 use Rattle.lines.specs.Decimal.{digitsOf, decimal}
 use Rattle.lines.specs.Text.{spaced, lineOf, textOf, endLine, refusedLine, badLine}
 use Rattle.lines.specs.Parsing.{readFrom, read, numbersIn, wholeLine}
-use Rattle.lister.specs.Printed.{unfitListed, printed}
+use Rattle.lister.specs.Printed.{unfitListed}
+use Rattle.lister.specs.Turns.{printed}
 
 -- "53 8 2 3": "2 0 1", "2 3 7", "end 2"
 pub example-row : printed (53 ∷ 51 ∷ 32 ∷ 56 ∷ 32 ∷ 50 ∷ 32 ∷ 51 ∷ 10 ∷ [])

@@ -1,6 +1,6 @@
 -- What an accepted page call does to the text that is due: its records are the first lines, and what follows its next mark,
 -- with the count gone on, is the rest.
-use mathlib.Core.Path.{_≡_, refl, sym, ap, _∙_}
+use mathlib.Core.Path.{_≡_, refl, sym, ap, subst, _∙_}
 use mathlib.Core.Bool.{true, false, true≢false}
 use mathlib.Core.List.{List, _++_, append-assoc}
 use Prim.Native.Nat.{ℕ, _+_, _-_, _^_, _<_, _≤_}
@@ -33,13 +33,14 @@ use Rattle.pages.specs.declared.PageAnswer.the-variants.{Paged, Refused}
 use Rattle.pages.proofs.PageTheorem.{page-accepts, page-holds, page-within, page-keeps, page-next, page-goes-on, page-mark-fits}
 use Rattle.lines.specs.Text.{textOf, endLine}
 use Rattle.lines.proofs.RecordLaws.{text-append}
-use Rattle.lister.specs.Printed.{printed, unfitListed, listConditions}
-use Rattle.lister.specs.Turns.{ahead, textDue, turnsFor, NotEnded, Going, Sound, Turned, Run, last, more}
+use Rattle.lister.specs.Printed.{unfitListed, listConditions, Prints}
+use Rattle.lister.specs.Turns.{printed, ahead, textDue, turnsFor, NotEnded, Going, Sound, Turned, Run, last, more}
 use Rattle.lister.specs.declared.Settings.{Settings}
 use Rattle.lister.specs.declared.Turn.{Turn}
 use Rattle.lister.specs.declared.Due.{Due}
 use Rattle.lister.specs.declared.Due.the-variants.{Listing}
 use Rattle.patterns.specs.declared.Mark.{Mark}
+use Rattle.lister.proofs.PrintedLaws.{printed-prints, printed-first}
 
 -- a generator that is listed is fit, and of degree 14 at most
 pub listed-fit : (g : ℕ) → unfitListed g ≡ false → (unfit g ≡ false) × (degree g ≤ 14)
@@ -155,6 +156,7 @@ pub run-prints : {steps firsts : List ℕ} {due : Due} {text : List ℕ} → Run
 run-prints (last text n t) = sym (t .0)
 run-prints (more text n t r) = ap (λ (rest : List ℕ). take n text ++ rest) (run-prints r) ∙ sym (t .0)
 
--- so whatever turns follow, from what the first function says is due, the texts joined are what is printed for the input
-pub program-prints : (input : List ℕ) {steps firsts : List ℕ} {due : Due} {text : List ℕ} → textDue due ≡ printed input → Run steps firsts due text → text ≡ printed input
-program-prints input e r = run-prints r ∙ e
+-- so whatever turns follow upon what is due by the first bytes of an input, the texts joined are what is to be printed for it
+pub program-prints : (room : ℕ) (input : List ℕ) → 40 < room → {steps firsts : List ℕ} {due : Due} {text : List ℕ}
+    → textDue due ≡ printed (take room input) → Run steps firsts due text → Prints input text
+program-prints room input h e r = subst (Prints input) (sym (run-prints r ∙ e ∙ printed-first room input h)) (printed-prints input)

@@ -3,14 +3,14 @@ use Prim.Native.Nat.{ℕ}
 use mathlib.Core.Bool.{Bool, _||_}
 use mathlib.Core.List.{List, [], _∷_, _++_}
 use lib.Dec.{ltb}
-use lib.ListN.{length, getD}
-use Rattle.base.specs.Outcome.{Condition, when, pick, judge}
+use lib.ListN.{length}
+use Rattle.base.specs.Outcome.{Condition, when, judge}
 use Rattle.poly.specs.Polynomial.{degree}
 use Rattle.poly.specs.Generators.{unfit}
 use Rattle.packet.specs.Packet.{unfitLength}
 use Rattle.patterns.specs.Listing.{listing, unfitLimit, unfitSyndrome}
 use Rattle.lines.specs.Text.{textOf, endLine, refusedLine, badLine}
-use Rattle.lines.specs.Parsing.{numbersIn, wholeLine}
+use Rattle.lines.specs.Input.{IsLine}
 
 -- the greatest degree that the program lists
 abbrev pub greatestListed : ℕ
@@ -42,8 +42,8 @@ abbrev pub printedFor : ℕ → ℕ → ℕ → ℕ → List ℕ
 printedFor generator bits limit syndrome =
     judge (listConditions generator bits limit syndrome) refusedLine (listText (listFor generator bits limit syndrome))
 
--- and for any input; PrintedLaws says it by the form of a line alone
-abbrev pub printed : List ℕ → List ℕ
-printed input =
-    let ns : List ℕ = numbersIn 4 input in
-    pick (wholeLine 4 input) (printedFor (getD ns 0 0) (getD ns 1 0) (getD ns 2 0) (getD ns 3 0)) badLine
+-- and for an input: what its four numbers come to where it is a line of four, and "bad line" where it is not
+pub data Prints (input : List ℕ) : List ℕ → Type 0 where
+  for-line : (generator bits limit syndrome : ℕ) → IsLine (generator ∷ bits ∷ limit ∷ syndrome ∷ []) input
+      → Prints input (printedFor generator bits limit syndrome)
+  for-other : ((generator bits limit syndrome : ℕ) → IsLine (generator ∷ bits ∷ limit ∷ syndrome ∷ []) input → ⊥) → Prints input badLine

@@ -3,8 +3,8 @@ use mathlib.Core.Path.{_≡_}
 use mathlib.Core.Bool.{false}
 use mathlib.Core.List.{List, _++_}
 use Prim.Native.Nat.{ℕ, _+_, _*_, _^_, _<_, _≤_}
-use lib.ListN.{length, take}
-use Rattle.base.specs.Outcome.{accepted}
+use lib.ListN.{length, getD, take}
+use Rattle.base.specs.Outcome.{accepted, pick}
 use Rattle.base.specs.Judged.{judged}
 use Rattle.base.specs.Refusals.{number}
 use Rattle.poly.specs.Polynomial.{degree}
@@ -13,13 +13,20 @@ use Rattle.patterns.specs.Patterns.{Place, start, ended, after, placeOf}
 use Rattle.patterns.specs.Marks.{remaining, unfitMark}
 use Rattle.patterns.specs.Records.{longestRecord}
 use Rattle.lines.specs.Text.{textOf, endLine, refusedLine, badLine}
+use Rattle.lines.specs.Parsing.{numbersIn, wholeLine}
 use Rattle.lines.specs.Writing.{Front, lineRoom}
 use Rattle.lister.specs.declared.Settings.{Settings}
 use Rattle.lister.specs.declared.Due.{Due}
 use Rattle.lister.specs.declared.Due.the-variants.{Bad, Refused, Listing}
 use Rattle.lister.specs.declared.Turn.{Turn}
 use Rattle.lister.specs.declared.Turn.the-variants.{Last, More}
-use Rattle.lister.specs.Printed.{greatestListed, listConditions, listFor}
+use Rattle.lister.specs.Printed.{greatestListed, listConditions, listFor, printedFor}
+
+-- what is printed, computed by reading the line; PrintedLaws has that it is what Prints says, and nothing else is
+abbrev pub printed : List ℕ → List ℕ
+printed input =
+    let ns : List ℕ = numbersIn 4 input in
+    pick (wholeLine 4 input) (printedFor (getD ns 0 0) (getD ns 1 0) (getD ns 2 0) (getD ns 3 0)) badLine
 
 -- the list of some settings, and what of it follows a mark
 abbrev pub wholeList : Settings → List (List ℕ)

@@ -12,9 +12,10 @@ ghost use Rattle.base.specs.Judged.{judgement, judged};
 ghost use Rattle.poly.specs.Polynomial.{degree};
 ghost use Rattle.patterns.specs.Patterns.{placeOf};
 ghost use Rattle.lister.specs.declared.Due.the-variants.{Listing};
-ghost use Rattle.lister.specs.Printed.{unfitListed, listConditions, printedFor, printed};
+ghost use Rattle.lister.specs.Printed.{unfitListed, listConditions, printedFor};
 ghost use Rattle.lister.specs.Turns.{
   NotEnded,
+  printed,
   textDue,
   Going,
   Sound,
