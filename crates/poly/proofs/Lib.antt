@@ -1,5 +1,6 @@
 pub mod FoldLaws
 pub mod ProductLaws
 pub mod DivisionLaws
+pub mod BackLaws
 pub mod DegreeLaws
 pub mod GeneratorLaws

@@ -13,9 +13,10 @@ use lib.Pow.{pow-mono, pow-pos}
 use Rattle.base.proofs.Cases.{by-order, by-equal}
 use Rattle.poly.specs.Polynomial.{reduce}
 use Rattle.poly.specs.Fit.{Divisor}
+use Rattle.poly.proofs.BackLaws.{by-parity, rem-twice}
 use Rattle.tables.specs.Tables.{entryBits, power, step, first, period, stepTable, firstTable}
 use Rattle.tables.specs.Rule.{later, EvenRuled, OddRuled}
-use Rattle.tables.proofs.StepLaws.{by-parity, step-is, step-halves, step-inverts, rem-twice}
+use Rattle.tables.proofs.StepLaws.{step-is, step-halves, step-inverts}
 use Rattle.tables.proofs.PowerLaws.{power-lt, power-suc, power-zero, power-nonzero, step-power}
 use Rattle.tables.proofs.PeriodLaws.{period-positive, period-least, power-period}
 use Rattle.tables.proofs.FirstLaws.{first-hit, first-early, first-below, first-none, first-zero, first-present, period-narrow}
