@@ -14,6 +14,7 @@ pub enum Refusal {
     Output,
     Range,
     Field,
+    Values,
 }
 
 // What testing a call's conditions in their order comes to.
@@ -37,5 +38,6 @@ pub fn number_of(refusal: Refusal) -> u32
         Refusal::Output => 8,
         Refusal::Range => 9,
         Refusal::Field => 10,
+        Refusal::Values => 11,
     }
 }

@@ -20,7 +20,7 @@ use Rattle.packet.specs.Packet.{Bytes, bits, polynomial, polynomialAfter
 
 -- ---- the polynomial of a joined packet
 
-after-is : (v : ℕ) (s : List ℕ) → polynomialAfter v s ≡ v * 256 ^ length s + polynomial s
+pub after-is : (v : ℕ) (s : List ℕ) → polynomialAfter v s ≡ v * 256 ^ length s + polynomial s
 unfolding polynomial polynomialAfter
 after-is v [] = omega arith
 after-is v (b ∷ s) =

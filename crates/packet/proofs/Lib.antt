@@ -2,5 +2,6 @@ pub mod PacketLaws
 pub mod CancelLaws
 pub mod FlipLaws
 pub mod DifferenceLaws
+pub mod ReadLaws
 pub mod RemainderLaws
 pub mod SealLaws

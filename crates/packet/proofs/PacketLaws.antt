@@ -11,25 +11,33 @@ use lib.Seq.{take-suc, take-length, drop-cons, getD-take, getD-set-same, drop-se
 use mathlib.Core.Bool.{true, false, true≢false, or-true}
 use borrow.Author.Tests.{lt-ltb, le-leb, lt-leb}
 use Rattle.base.proofs.Cases.{by-order}
-use lib.Dec.{ltb}
-use Rattle.packet.specs.Packet.{Bytes, polynomial, polynomialAfter, bytes, mostBits, unfitLength}
+use lib.Dec.{leb, ltb}
+use Rattle.packet.specs.Packet.{Bytes, polynomial, polynomialAfter, bytes, mostBits, unfitLength, unfitValues}
 
 polynomialAfter-snoc : (v : ℕ) (s : List ℕ) (b : ℕ) → polynomialAfter v (s ++ (b ∷ [])) ≡ polynomialAfter v s * 256 + b
 unfolding polynomialAfter
 polynomialAfter-snoc v [] b = refl
 polynomialAfter-snoc v (a ∷ s) b = polynomialAfter-snoc (v * 256 + a) s b
 
-pub polynomial-nil : polynomial [] ≡ 0
-unfolding polynomial polynomialAfter
-polynomial-nil = refl
+pub after-nil : (v : ℕ) → polynomialAfter v [] ≡ v
+unfolding polynomialAfter
+after-nil v = refl
+
+polynomial-nil : polynomial [] ≡ 0
+unfolding polynomial
+polynomial-nil = after-nil 0
 
 pub polynomial-snoc : (s : List ℕ) (b : ℕ) → polynomial (s ++ (b ∷ [])) ≡ polynomial s * 256 + b
 unfolding polynomial
 polynomial-snoc s b = polynomialAfter-snoc 0 s b
 
 -- one byte more
+pub after-take : (v : ℕ) (s : List ℕ) (i : ℕ) → i < length s → polynomialAfter v (take (suc i) s) ≡ polynomialAfter v (take i s) * 256 + getD s i 0
+after-take v s i h = ap (polynomialAfter v) (take-suc s i 0 h) ∙ polynomialAfter-snoc v (take i s) (getD s i 0)
+
 pub polynomial-take : (s : List ℕ) (i : ℕ) → i < length s → polynomial (take (suc i) s) ≡ polynomial (take i s) * 256 + getD s i 0
-polynomial-take s i h = ap polynomial (take-suc s i 0 h) ∙ polynomial-snoc (take i s) (getD s i 0)
+unfolding polynomial
+polynomial-take s i h = after-take 0 s i h
 
 pub length-bytes : (k v : ℕ) → length (bytes k v) ≡ k
 unfolding bytes
@@ -98,7 +106,7 @@ add-low-step q p i left b h l e =
     ap (λ (t : List ℕ). bytes i (bitXor (polynomial (take i q)) (left / 256)) ++ t) tail
     ∙ sym (ap (λ (t : List ℕ). t ++ drop (suc i) p) head ∙ append-assoc (bytes i (bitXor (polynomial (take i q)) (left / 256))) (x ∷ []) (drop (suc i) p))
 
--- ---- condition 2
+-- ---- conditions 2 and 11
 
 pub long-unfit : (n l : ℕ) → mostBits < l → unfitLength n l ≡ true
 unfolding unfitLength
@@ -117,3 +125,17 @@ fit-length n l e =
     by-order n l
     (λ h. by-order mostBits l (λ k. absurd (true≢false (sym (long-unfit n l k) ∙ e))) (λ k. (h, k)))
     (λ h. absurd (true≢false (sym (short-unfit n l h) ∙ e)))
+
+pub init-unfit : (n i f : ℕ) → 2 ^ n ≤ i → unfitValues n i f ≡ true
+unfolding unfitValues
+init-unfit n i f h = simp (le-leb _ _ h)
+
+pub xorout-unfit : (n i f : ℕ) → i < 2 ^ n → unfitValues n i f ≡ leb (2 ^ n) f
+unfolding unfitValues
+xorout-unfit n i f h = simp (lt-leb _ _ h)
+
+pub fit-values : (n i f : ℕ) → unfitValues n i f ≡ false → (i < 2 ^ n) × (f < 2 ^ n)
+fit-values n i f e =
+    by-order i (2 ^ n)
+    (λ h. by-order f (2 ^ n) (λ k. (h, k)) (λ k. absurd (true≢false (sym (xorout-unfit n i f h ∙ le-leb _ _ k) ∙ e))))
+    (λ h. absurd (true≢false (sym (init-unfit n i f h) ∙ e)))

@@ -11,19 +11,22 @@ use Rattle.base.proofs.XorLaws.{xor-cancel}
 use Rattle.poly.specs.Polynomial.{rem, powers}
 use Rattle.poly.specs.Fit.{Divisor}
 use Rattle.poly.proofs.DivisionLaws.{rem-lt, rem-xor}
-use Rattle.packet.specs.Packet.{Bytes, bits, polynomial, remainder, flips}
+use Rattle.packet.specs.Packet.{Bytes, bits, polynomial, asRead, remainder, flips}
 use Rattle.packet.specs.declared.Crc.{Crc}
 use Rattle.packet.proofs.FlipLaws.{flips-length, polynomial-flips}
+use Rattle.packet.proofs.ReadLaws.{read-sum}
 
 module _ (c : Crc) (d : Divisor (c .generator .degree) (c .generator .coefficients)) where
   pub remainder-lt : (s : List ℕ) → remainder c s < 2 ^ c .generator .degree
   unfolding remainder
-  remainder-lt s = rem-lt (c .generator .degree) (c .generator .coefficients) (d .low) (d .high) (polynomial s)
+  remainder-lt s = rem-lt (c .generator .degree) (c .generator .coefficients) (d .low) (d .high) (asRead c s)
 
   pub remainder-sum : (s t : List ℕ) → length t ≡ length s
       → bitXor (remainder c s) (remainder c t) ≡ rem (c .generator .degree) (c .generator .coefficients) (bitXor (polynomial s) (polynomial t))
   unfolding remainder
-  remainder-sum s t l = sym (rem-xor (c .generator .degree) (c .generator .coefficients) (d .low) (d .high) (polynomial s) (polynomial t))
+  remainder-sum s t l =
+      sym (rem-xor (c .generator .degree) (c .generator .coefficients) (d .low) (d .high) (asRead c s) (asRead c t))
+      ∙ ap (rem (c .generator .degree) (c .generator .coefficients)) (read-sum c s t l)
 
   -- flipping a set of positions changes the remainder by the remainder of the sum of their powers of x
   pub remainder-flips : (s ps : List ℕ) → All (λ (p : ℕ). p < bits s) ps → Bytes s

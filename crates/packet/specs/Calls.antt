@@ -4,16 +4,20 @@ use mathlib.Core.List.{List, [], _∷_}
 use Rattle.base.specs.Outcome.{Outcome, refused, accepted, Condition, when, judge}
 use Rattle.base.specs.Refusals.{number}
 use Rattle.poly.specs.Generators.{unfit}
-use Rattle.packet.specs.Packet.{bits, unfitLength, remainder, sealed}
+use Rattle.packet.specs.Packet.{bits, unfitLength, unfitValues, remainder, sealed}
 use Rattle.packet.specs.declared.Crc.{Crc}
 use Rattle.packet.specs.declared.RemainderAnswer.{RemainderAnswer}
 use Rattle.packet.specs.declared.RemainderAnswer.the-variants as RemainderAnswer-cases
 use Rattle.packet.specs.declared.SealAnswer.{SealAnswer}
 use Rattle.packet.specs.declared.SealAnswer.the-variants as SealAnswer-cases
 
--- remainder and seal are refused by 1 and 2
+-- remainder and seal are refused by 1, 2 and 11
 abbrev pub packetConditions : Crc → ℕ → List Condition
-packetConditions c l = when 1 (unfit (c .generator .coefficients)) ∷ when 2 (unfitLength (c .generator .degree) l) ∷ []
+packetConditions c l =
+    when 1 (unfit (c .generator .coefficients))
+    ∷ when 2 (unfitLength (c .generator .degree) l)
+    ∷ when 11 (unfitValues (c .generator .degree) (c .init) (c .xorout))
+    ∷ []
 
 abbrev pub remainderAnswer : RemainderAnswer → Outcome ℕ
 remainderAnswer (RemainderAnswer-cases.Remainder r) = accepted r

@@ -1,3 +1,4 @@
 pub mod Packet
 pub mod Calls
 pub mod Cancelling
+pub mod Reading

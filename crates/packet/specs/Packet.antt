@@ -40,13 +40,21 @@ mostBits = 4096
 unfoldable pub unfitLength : ℕ → ℕ → Bool
 unfitLength n l = leb l n || ltb mostBits l
 
--- what the CRC of a generator is taken by
-abbrev pub crcOf : ℕ → Crc
-crcOf g = record { generator = generatorOf g }
+-- what the CRC of a generator, an initial and a final value is taken by
+abbrev pub crcOf : ℕ → ℕ → ℕ → Crc
+crcOf g i f = record { generator = generatorOf g; init = i; xorout = f }
+
+-- condition 11, for a generator of degree n: the initial or the final value is not below 2 ^ n
+unfoldable pub unfitValues : ℕ → ℕ → ℕ → Bool
+unfitValues n i f = leb (2 ^ n) i || leb (2 ^ n) f
+
+-- the packet as the CRC reads it: the initial value added at its first n bits, and the final value at its last n
+unfoldable pub asRead : Crc → List ℕ → ℕ
+asRead c s = bitXor (bitXor (polynomial s) (c .init * 2 ^ (bits s - c .generator .degree))) (c .xorout)
 
 -- the remainder, or syndrome, of a packet
 unfoldable pub remainder : Crc → List ℕ → ℕ
-remainder c s = rem (c .generator .degree) (c .generator .coefficients) (polynomial s)
+remainder c s = rem (c .generator .degree) (c .generator .coefficients) (asRead c s)
 
 -- the packet whose last n bits are set so that its remainder is 0; SealLaws has that it is the only one
 unfoldable pub sealed : Crc → List ℕ → List ℕ

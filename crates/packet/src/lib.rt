@@ -12,10 +12,12 @@ ghost use Rattle.poly.specs.Fit.{Fit};
 ghost use Rattle.poly.specs.Polynomial.{rem};
 ghost use Rattle.packet.specs.Packet.{
   Bytes,
+  polynomialAfter,
   polynomial,
   bytes,
   bits,
   unfitLength,
+  unfitValues,
   crcOf,
   remainder,
   bitAt,
@@ -23,6 +25,7 @@ ghost use Rattle.packet.specs.Packet.{
   flips,
 };
 ghost use Rattle.packet.specs.Cancelling.{Cancelled};
+ghost use Rattle.packet.specs.Reading.{Readable};
 ghost use Rattle.packet.specs.Calls.{
   packetConditions,
   remainderAnswer,
@@ -35,6 +38,8 @@ ghost use Rattle.packet.specs.Calls.{
 // What a CRC is taken by.
 pub struct Crc {
     pub generator: Generator,
+    pub init: u64,
+    pub xorout: u64,
 }
 
 pub enum RemainderAnswer {
@@ -53,11 +58,15 @@ pub const MOST_BYTES: usize = 512;
 pub const MOST_BITS: usize = 8 * MOST_BYTES;
 
 // What a CRC is taken by, from the numbers given, whether they are accepted or not.
-pub fn crc_of(generator: u64) -> Crc
-    ensures { λ r. ⌜ r ≡ crcOf generator ⌝ }
+pub fn crc_of(generator: u64, init: u64, xorout: u64) -> Crc
+    ensures { λ r. ⌜ r ≡ crcOf generator init xorout ⌝ }
 {
     let made = Generator::of(generator);
-    Crc { generator: made }
+    Crc {
+        generator: made,
+        init,
+        xorout,
+    }
 }
 
 // Condition 2, for `bits` bits.
@@ -78,6 +87,17 @@ pub fn unfit_bytes(g: Generator, len: usize) -> bool
         return true;
     }
     unfit_bits(g, 8 * len)
+}
+
+// Condition 11.
+pub fn unfit_values(g: Generator, init: u64, xorout: u64) -> bool
+    requires { ⌜ Fit g ⌝ }
+    ensures { λ r. ⌜ r ≡ unfitValues (g .degree) init xorout ⌝ }
+{
+    if 1u64 << g.degree <= init {
+        return true;
+    }
+    1u64 << g.degree <= xorout
 }
 
 // Takes x^(n + j) out of v, where it is there: v less x^j times the generator.
@@ -108,12 +128,26 @@ fn append(g: Generator, r: u64, b: u64) -> u64
     v
 }
 
-// The remainder that the generator leaves of the bytes alone.
-fn divide(g: Generator, packet: &[u8]) -> u64
-    requires { ⌜ Fit g ⌝ }
-    ensures { λ r. ⌜ r ≡ rem (g .degree) (g .coefficients) (polynomial (now (packet .entry))) ⌝ }
+// The remainder that times x^n leaves the initial value.
+fn register_of(g: Generator, init: u64) -> u64
+    requires { ⌜ Fit g × (init < 2 ^ g .degree) ⌝ }
+    ensures { λ r. ⌜ (r < 2 ^ g .degree) × (rem (g .degree) (g .coefficients) (r * 2 ^ g .degree) ≡ init) ⌝ }
 {
-    let mut r: u64 = 0;
+    let mut r = init;
+    let mut i: u32 = 0;
+    while i < g.degree {
+        r = poly::over_x(g, r);
+        i += 1;
+    }
+    r
+}
+
+// The remainder that the generator leaves of the bytes with a register before them.
+fn divide(g: Generator, register: u64, packet: &[u8]) -> u64
+    requires { ⌜ Fit g × (register < 2 ^ g .degree) ⌝ }
+    ensures { λ r. ⌜ r ≡ rem (g .degree) (g .coefficients) (polynomialAfter register (now (packet .entry))) ⌝ }
+{
+    let mut r = register;
     let mut i = 0;
     while i < packet.len() {
         r = append(g, r, packet[i] as u64);
@@ -122,13 +156,13 @@ fn divide(g: Generator, packet: &[u8]) -> u64
     r
 }
 
-// The remainder of a packet of any length.
+// The remainder of a packet: the register starts so that the initial value is added at the packet's first n bits.
 pub fn remainder_of(crc: Crc, packet: &[u8]) -> u64
-    requires { ⌜ Fit (crc .generator) ⌝ }
+    requires { ⌜ Readable crc (now packet) ⌝ }
     ensures { λ r. ⌜ r ≡ remainder crc (now (packet .entry)) ⌝ }
 {
     let g = crc.generator;
-    divide(g, packet)
+    divide(g, register_of(g, crc.init), packet) ^ crc.xorout
 }
 
 // XORs a number into the packet's last bytes.
@@ -149,37 +183,43 @@ fn add_low(packet: &mut [u8], value: u64)
 }
 
 // The conditions of remainder and seal, in their order.
-fn judge_packet(generator: u64, len: usize) -> Judgement
-    ensures { λ r. ⌜ judgement r ≡ judged (packetConditions (crcOf generator) (8 * len)) ⌝ }
+fn judge_packet(generator: u64, init: u64, xorout: u64, len: usize) -> Judgement
+    ensures { λ r. ⌜ judgement r ≡ judged (packetConditions (crcOf generator init xorout) (8 * len)) ⌝ }
 {
     if poly::unfit_generator(generator) {
         return Judgement::Refused(Refusal::Generator);
     }
-    if unfit_bytes(Generator::of(generator), len) {
+    let g = Generator::of(generator);
+    if unfit_bytes(g, len) {
         return Judgement::Refused(Refusal::Length);
+    }
+    if unfit_values(g, init, xorout) {
+        return Judgement::Refused(Refusal::Values);
     }
     Judgement::Passed
 }
 
-pub fn remainder(generator: u64, packet: &[u8]) -> RemainderAnswer
-    ensures { λ r. ⌜ remainderAnswer r ≡ remainderCall (crcOf generator) (now (packet .entry)) ⌝ }
+pub fn remainder(generator: u64, init: u64, xorout: u64, packet: &[u8]) -> RemainderAnswer
+    ensures { λ r. ⌜ remainderAnswer r ≡ remainderCall (crcOf generator init xorout) (now (packet .entry)) ⌝ }
 {
-    let judged = judge_packet(generator, packet.len());
+    let judged = judge_packet(generator, init, xorout, packet.len());
     match judged {
         Judgement::Refused(r) => RemainderAnswer::Refused(r),
-        Judgement::Passed => { RemainderAnswer::Remainder(remainder_of(crc_of(generator), packet)) }
+        Judgement::Passed => {
+            RemainderAnswer::Remainder(remainder_of(crc_of(generator, init, xorout), packet))
+        }
     }
 }
 
-pub fn seal(generator: u64, packet: &mut [u8]) -> SealAnswer
-    ensures answer { λ r. ⌜ sealAnswer r ≡ sealCall (crcOf generator) (now (packet .entry)) ⌝ }
-    ensures bytes { λ _. ⌜ now (packet .exit) ≡ sealPacket (crcOf generator) (now (packet .entry)) ⌝ }
+pub fn seal(generator: u64, init: u64, xorout: u64, packet: &mut [u8]) -> SealAnswer
+    ensures answer { λ r. ⌜ sealAnswer r ≡ sealCall (crcOf generator init xorout) (now (packet .entry)) ⌝ }
+    ensures bytes { λ _. ⌜ now (packet .exit) ≡ sealPacket (crcOf generator init xorout) (now (packet .entry)) ⌝ }
 {
-    let judged = judge_packet(generator, packet.len());
+    let judged = judge_packet(generator, init, xorout, packet.len());
     match judged {
         Judgement::Refused(r) => SealAnswer::Refused(r),
         Judgement::Passed => {
-            let r = remainder_of(crc_of(generator), packet);
+            let r = remainder_of(crc_of(generator, init, xorout), packet);
             add_low(packet, r);
             SealAnswer::Sealed
         }

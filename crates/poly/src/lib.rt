@@ -2,7 +2,7 @@
 use base::Refusal;
 ghost use mathlib.Core.Path.{_≡_};
 ghost use Prim.Native.Nat.{_*_, _^_, _<_};
-ghost use Rattle.poly.specs.Polynomial.{reduce};
+ghost use Rattle.poly.specs.Polynomial.{rem, reduce};
 ghost use Rattle.poly.specs.Generators.{unfit, construction, constructed, generatorOf, five, ccitt};
 ghost use Rattle.poly.specs.Fit.{Fit};
 
@@ -94,4 +94,12 @@ pub fn times_x(g: Generator, t: u64) -> u64
 {
     let u = t * 2;
     ((u >> g.degree) * g.coefficients) ^ u
+}
+
+// The remainder that times x leaves `t`.
+pub fn over_x(g: Generator, t: u64) -> u64
+    requires { ⌜ Fit g × (t < 2 ^ g .degree) ⌝ }
+    ensures { λ r. ⌜ (r < 2 ^ g .degree) × (rem (g .degree) (g .coefficients) (r * 2) ≡ t) ⌝ }
+{
+    (t / 2) ^ (t % 2 * (g.coefficients / 2))
 }

@@ -1,14 +1,14 @@
--- `remainder` answers by conditions 1 and 2, and else with the remainder of the packet.
+-- `remainder` answers by conditions 1, 2 and 11, and else with the remainder of the packet.
 use mathlib.Core.Path.{sym, ap, _∙_}
 use Prim.Native.Nat.{_*_}
 use borrow.Author.Needs.{needs}
 use lib.ListN.{length}
 use Rattle.base.specs.Outcome.{refused, accepted}
 use Rattle.base.proofs.JudgeLaws.{turned-down, let-through, none-applies}
-use Rattle.poly.proofs.GeneratorLaws.{fit-accepted}
 use Rattle.packet.specs.Packet.{crcOf, remainder}
 use Rattle.packet.specs.Calls.{packetConditions}
 use Rattle.packet.specs.declared.Crc.{Crc}
+use Rattle.packet.proofs.ReadLaws.{fit-readable}
 use Rattle.packet.proofs.remainder.Statement.{statement}
 use Rattle.packet.proofs.remainder.Tie as tie
 
@@ -16,15 +16,14 @@ remainder-of-requires : tie.Need-remainder-of-requires
 remainder-of-requires c κs =
     let j = c .before .before .before in
     let a = j .before .before .args in
-    rw (c .crc-of .ensures)
-    (fit-accepted (a .generator)
-    (none-applies (packetConditions (crcOf (a .generator)) (8 * length (a .packet .now))) (j .judge-packet .ensures) (c .before .enum-told .given .1) 1))
+    let clear = none-applies (packetConditions (crcOf (a .generator) (a .init) (a .xorout)) (8 * length (a .packet .now))) (j .judge-packet .ensures) (c .before .enum-told .given .1) in
+    rw (c .crc-of .ensures) (fit-readable (a .generator) (a .init) (a .xorout) (a .packet .now) (clear 1) (clear 2) (clear 11))
 
 returns : tie.Need-returns
 returns c =
     let j = c .before .before .before in
     let a = j .before .before .args in
-    let k = crcOf (a .generator) in
+    let k = crcOf (a .generator) (a .init) (a .xorout) in
     sym
     (turned-down (packetConditions k (8 * length (a .packet .now))) (j .judge-packet .ensures) (c .before .judged .given .1) refused
     (accepted (remainder k (a .packet .now))))
@@ -33,7 +32,7 @@ returns-2 : tie.Need-returns-2
 returns-2 c =
     let j = c .before .before .before .before in
     let a = j .before .before .args in
-    let k = crcOf (a .generator) in
+    let k = crcOf (a .generator) (a .init) (a .xorout) in
     ap accepted (c .remainder-of .ensures ∙ ap (λ (w : Crc). remainder w (a .packet .now)) (c .before .crc-of .ensures))
     ∙ sym
     (let-through (packetConditions k (8 * length (a .packet .now))) (j .judge-packet .ensures) (c .before .before .enum-told .given .1) refused

@@ -1,4 +1,4 @@
--- `seal` answers by conditions 1 and 2 and then leaves the packet alone; else the remainder is XORed into its last bits.
+-- `seal` answers by conditions 1, 2 and 11 and then leaves the packet alone; else the remainder is XORed into its last bits.
 use mathlib.Core.Path.{_≡_, sym, ap, _∙_}
 use mathlib.Core.List.{List}
 use Prim.Native.Nat.{ℕ, _*_}
@@ -8,10 +8,10 @@ use lib.Bits.{bitXor}
 use lib.ListN.{length}
 use Rattle.base.specs.Outcome.{refused, accepted, Condition}
 use Rattle.base.proofs.JudgeLaws.{turned-down, let-through, none-applies}
-use Rattle.poly.proofs.GeneratorLaws.{fit-accepted}
 use Rattle.packet.specs.Packet.{polynomial, bytes, crcOf, remainder, sealed}
 use Rattle.packet.specs.Calls.{packetConditions}
 use Rattle.packet.specs.declared.Crc.{Crc}
+use Rattle.packet.proofs.ReadLaws.{fit-readable}
 use Rattle.packet.proofs.seal.Statement.{statement}
 use Rattle.packet.proofs.seal.Tie as tie
 
@@ -20,9 +20,8 @@ remainder-of-requires c κs =
     let m = c .before in
     let j = m .before .before .before in
     let a = j .before .before .args in
-    rw (m .crc-of .ensures)
-    (fit-accepted (a .generator)
-    (none-applies (packetConditions (crcOf (a .generator)) (8 * length (a .packet .now))) (j .judge-packet .ensures) (m .before .enum-told .given .1) 1))
+    let clear = none-applies (packetConditions (crcOf (a .generator) (a .init) (a .xorout)) (8 * length (a .packet .now))) (j .judge-packet .ensures) (m .before .enum-told .given .1) in
+    rw (m .crc-of .ensures) (fit-readable (a .generator) (a .init) (a .xorout) (a .packet .now) (clear 1) (clear 2) (clear 11))
 
 add-low-requires : tie.Need-add-low-requires
 add-low-requires c κs = λ i. omega (arith, c .before .before .before .before .before .before .before .slice-known .given i)
@@ -32,7 +31,7 @@ returns c =
     let j = c .before .before .before in
     let a = j .before .before .args in
     let q = a .packet .now in
-    let k = crcOf (a .generator) in
+    let k = crcOf (a .generator) (a .init) (a .xorout) in
     let ts : List Condition = packetConditions k (8 * length q) in
     let h = c .before .judged .given .1 in (
       sym (turned-down ts (j .judge-packet .ensures) h refused (accepted tt)),
@@ -48,7 +47,7 @@ returns-2 c =
     let j = m .before .before .before in
     let a = j .before .before .args in
     let q = a .packet .now in
-    let k = crcOf (a .generator) in
+    let k = crcOf (a .generator) (a .init) (a .xorout) in
     let ts : List Condition = packetConditions k (8 * length q) in
     let h = m .before .enum-told .given .1 in
     let r : rest .remainder-of .result ≡ remainder k q = rest .remainder-of .ensures ∙ ap (λ (w : Crc). remainder w q) (m .crc-of .ensures) in (

@@ -1,0 +1,65 @@
+-- The packet as the CRC reads it: the values added are the same for all packets of one length, and a register reads them.
+use mathlib.Core.Path.{_≡_, sym, ap, ap₂, _∙_}
+use mathlib.Core.Bool.{false}
+use mathlib.Core.List.{List}
+use Prim.Native.Nat.{ℕ, _+_, _-_, _*_, _^_, _<_, _≤_}
+use native.Mathlib.Omega.{arith}
+use native.Mathlib.Nat.{zero-mul, mul-assoc}
+use lib.Bits.{bitXor, xor-zero-r, xor-shifted}
+use lib.ListN.{length}
+use lib.Pow.{pow-add}
+use Rattle.base.proofs.XorLaws.{xor-ac}
+use Rattle.poly.specs.Polynomial.{degree, rem}
+use Rattle.poly.specs.Generators.{unfit}
+use Rattle.poly.proofs.DivisionLaws.{rem-xor, rem-small, rem-shift}
+use Rattle.poly.proofs.GeneratorLaws.{fit-accepted}
+use Rattle.packet.specs.Packet.{Bytes, bits, polynomial, polynomialAfter, unfitLength, unfitValues, crcOf, asRead, remainder}
+use Rattle.packet.specs.Reading.{Readable}
+use Rattle.packet.specs.declared.Crc.{Crc}
+use Rattle.packet.proofs.PacketLaws.{fit-length, fit-values}
+use Rattle.packet.proofs.FlipLaws.{after-is, byte-power, polynomial-lt}
+
+-- what is added cancels in the sum of two packets of one length
+pub read-sum : (c : Crc) (s t : List ℕ) → length t ≡ length s → bitXor (asRead c s) (asRead c t) ≡ bitXor (polynomial s) (polynomial t)
+unfolding asRead
+read-sum c s t l = rw l (simp xor-ac)
+
+-- with initial and final values 0 nothing is added
+pub read-plain : (c : Crc) (s : List ℕ) → c .init ≡ 0 → c .xorout ≡ 0 → asRead c s ≡ polynomial s
+unfolding asRead
+read-plain c s i f = rw (i, f) (simp (zero-mul, xor-zero-r))
+
+-- where conditions 1, 2 and 11 do not apply, a packet can be read
+pub fit-readable : (g i f : ℕ) (s : List ℕ) → unfit g ≡ false → unfitLength (degree g) (bits s) ≡ false → unfitValues (degree g) i f ≡ false
+    → Readable (crcOf g i f) s
+fit-readable g i f s generator length values =
+    let small = fit-values (degree g) i f values in
+    record { fit = fit-accepted g generator; init = small .0; xorout = small .1; long = omega (arith, fit-length (degree g) (bits s) length .0) }
+
+-- a register in front of the packet, of which x^n times leaves the initial value, stands for that value in the first n bits
+pub register-reads : (c : Crc) (s : List ℕ) (v : ℕ) → Readable c s → Bytes s
+    → rem (c .generator .degree) (c .generator .coefficients) (v * 2 ^ c .generator .degree) ≡ c .init
+    → bitXor (rem (c .generator .degree) (c .generator .coefficients) (polynomialAfter v s)) (c .xorout) ≡ remainder c s
+unfolding remainder asRead
+register-reads c s v r b e =
+    let n : ℕ = c .generator .degree in
+    let g : ℕ = c .generator .coefficients in
+    let low = r .fit .divisor .low in
+    let high = r .fit .divisor .high in
+    let k : ℕ = bits s - n in
+    let places : bits s ≡ n + k = omega (arith, r .long) in
+    let small : polynomial s < 2 ^ bits s = rw (← byte-power (length s)) (polynomial-lt s b) in
+    let top : rem n g (v * 2 ^ bits s) ≡ rem n g (c .init * 2 ^ k) =
+    ap (λ (x : ℕ). rem n g (v * x)) (ap (λ (x : ℕ). 2 ^ x) places ∙ pow-add 2 n k)
+    ∙ ap (rem n g) (sym (mul-assoc v (2 ^ n) (2 ^ k)))
+    ∙ rem-shift n g low high k (v * 2 ^ n)
+    ∙ ap (λ (x : ℕ). rem n g (x * 2 ^ k)) e in
+    let whole : polynomialAfter v s ≡ bitXor (v * 2 ^ bits s) (polynomial s) =
+    after-is v s
+    ∙ ap (λ (x : ℕ). v * x + polynomial s) (byte-power (length s))
+    ∙ sym (xor-shifted v (bits s) (polynomial s) small) in
+    ap₂ bitXor (ap (rem n g) whole ∙ rem-xor n g low high (v * 2 ^ bits s) (polynomial s) ∙ ap (λ (x : ℕ). bitXor x (rem n g (polynomial s))) top) (sym (rem-small n g (c .xorout) (r .xorout)))
+    ∙ sym
+    (rem-xor n g low high (bitXor (polynomial s) (c .init * 2 ^ k)) (c .xorout)
+    ∙ ap (λ (x : ℕ). bitXor x (rem n g (c .xorout))) (rem-xor n g low high (polynomial s) (c .init * 2 ^ k))
+    ∙ (simp xor-ac))
