@@ -60,11 +60,17 @@ const COPY: u32 = 1;
 const NOTHING: u32 = 2;
 
 #[no_mangle]
-pub extern "C" fn rangqoda_remainder(generator: u64, packet: &[u8], remainder: &mut u64) -> u32
-    ensures answer { λ r. ⌜ r ≡ code (remainderCall (crcOf generator) (now (packet .entry))) ⌝ }
-    ensures remainder { λ _. ⌜ now (remainder .exit) ≡ changed (now (remainder .entry)) (λ v. v) (remainderCall (crcOf generator) (now (packet .entry))) ⌝ }
+pub extern "C" fn rangqoda_remainder(
+    generator: u64,
+    init: u64,
+    xorout: u64,
+    packet: &[u8],
+    remainder: &mut u64,
+) -> u32
+    ensures answer { λ r. ⌜ r ≡ code (remainderCall (crcOf generator init xorout) (now (packet .entry))) ⌝ }
+    ensures remainder { λ _. ⌜ now (remainder .exit) ≡ changed (now (remainder .entry)) (λ v. v) (remainderCall (crcOf generator init xorout) (now (packet .entry))) ⌝ }
 {
-    let answer = packet::remainder(generator, packet);
+    let answer = packet::remainder(generator, init, xorout, packet);
     match answer {
         RemainderAnswer::Refused(r) => base::number_of(r),
         RemainderAnswer::Remainder(v) => {
@@ -75,11 +81,16 @@ pub extern "C" fn rangqoda_remainder(generator: u64, packet: &[u8], remainder: &
 }
 
 #[no_mangle]
-pub extern "C" fn rangqoda_seal(generator: u64, packet: &mut [u8]) -> u32
-    ensures answer { λ r. ⌜ r ≡ code (sealCall (crcOf generator) (now (packet .entry))) ⌝ }
-    ensures packet { λ _. ⌜ now (packet .exit) ≡ sealPacket (crcOf generator) (now (packet .entry)) ⌝ }
+pub extern "C" fn rangqoda_seal(
+    generator: u64,
+    init: u64,
+    xorout: u64,
+    packet: &mut [u8],
+) -> u32
+    ensures answer { λ r. ⌜ r ≡ code (sealCall (crcOf generator init xorout) (now (packet .entry))) ⌝ }
+    ensures packet { λ _. ⌜ now (packet .exit) ≡ sealPacket (crcOf generator init xorout) (now (packet .entry)) ⌝ }
 {
-    let answer = packet::seal(generator, packet);
+    let answer = packet::seal(generator, init, xorout, packet);
     match answer {
         SealAnswer::Refused(r) => base::number_of(r),
         SealAnswer::Sealed => 0,
@@ -300,6 +311,8 @@ fn room_for(verdict: usize, output: usize) -> usize
 #[no_mangle]
 pub extern "C" fn rangqoda_repair(
     generator: u64,
+    init: u64,
+    xorout: u64,
     start: usize,
     end: usize,
     limit: usize,
@@ -309,15 +322,17 @@ pub extern "C" fn rangqoda_repair(
     output: &mut [u8],
     verdict: &mut [u8],
 ) -> u32
-    ensures answer { λ r. ⌜ r ≡ code (repairCall (handed (crcOf generator) (checkOf start end) limit (now (step .entry)) (now (first .entry)) (now (packet .entry)) (now (output .entry)) (now (verdict .entry))) (patternIn (now (verdict .exit)))) ⌝ }
-    ensures verdict { λ _. ⌜ now (verdict .exit) ≡ verdictAfter (now (verdict .entry)) (repairCall (handed (crcOf generator) (checkOf start end) limit (now (step .entry)) (now (first .entry)) (now (packet .entry)) (now (output .entry)) (now (verdict .entry))) (patternIn (now (verdict .exit)))) ⌝ }
-    ensures names { λ _. ⌜ NamesWell (handed (crcOf generator) (checkOf start end) limit (now (step .entry)) (now (first .entry)) (now (packet .entry)) (now (output .entry)) (now (verdict .entry))) (repairCall (handed (crcOf generator) (checkOf start end) limit (now (step .entry)) (now (first .entry)) (now (packet .entry)) (now (output .entry)) (now (verdict .entry))) (patternIn (now (verdict .exit)))) ⌝ }
-    ensures output { λ _. ⌜ now (output .exit) ≡ outputAfter (handed (crcOf generator) (checkOf start end) limit (now (step .entry)) (now (first .entry)) (now (packet .entry)) (now (output .entry)) (now (verdict .entry))) (now (output .entry)) (now (verdict .entry)) ⌝ }
+    ensures answer { λ r. ⌜ r ≡ code (repairCall (handed (crcOf generator init xorout) (checkOf start end) limit (now (step .entry)) (now (first .entry)) (now (packet .entry)) (now (output .entry)) (now (verdict .entry))) (patternIn (now (verdict .exit)))) ⌝ }
+    ensures verdict { λ _. ⌜ now (verdict .exit) ≡ verdictAfter (now (verdict .entry)) (repairCall (handed (crcOf generator init xorout) (checkOf start end) limit (now (step .entry)) (now (first .entry)) (now (packet .entry)) (now (output .entry)) (now (verdict .entry))) (patternIn (now (verdict .exit)))) ⌝ }
+    ensures names { λ _. ⌜ NamesWell (handed (crcOf generator init xorout) (checkOf start end) limit (now (step .entry)) (now (first .entry)) (now (packet .entry)) (now (output .entry)) (now (verdict .entry))) (repairCall (handed (crcOf generator init xorout) (checkOf start end) limit (now (step .entry)) (now (first .entry)) (now (packet .entry)) (now (output .entry)) (now (verdict .entry))) (patternIn (now (verdict .exit)))) ⌝ }
+    ensures output { λ _. ⌜ now (output .exit) ≡ outputAfter (handed (crcOf generator init xorout) (checkOf start end) limit (now (step .entry)) (now (first .entry)) (now (packet .entry)) (now (output .entry)) (now (verdict .entry))) (now (output .entry)) (now (verdict .entry)) ⌝ }
 {
     let room = room_for(verdict.len(), output.len());
     let check = checksum::check_of(start, end);
     let answer = repair::repair(
         generator,
+        init,
+        xorout,
         check,
         limit,
         step,

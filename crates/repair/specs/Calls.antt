@@ -10,7 +10,7 @@ use Rattle.base.specs.Lists.{In}
 use Rattle.base.specs.Outcome.{Outcome, refused, accepted, Condition, when, judge}
 use Rattle.base.specs.Refusals.{number}
 use Rattle.poly.specs.Generators.{unfit}
-use Rattle.packet.specs.Packet.{bits, unfitLength}
+use Rattle.packet.specs.Packet.{bits, unfitLength, unfitValues}
 use Rattle.packet.specs.declared.Crc.{Crc}
 use Rattle.tables.specs.Tables.{unfitTables, wrongTables}
 use Rattle.checksum.specs.Checksum.{unfitRange}
@@ -46,12 +46,13 @@ repairRequest crc check limit steps firsts packet output =
 unfoldable pub unfitCopy : ℕ → ℕ → Bool
 unfitCopy room long = not (eqb room long)
 
--- a repair call is refused by 1, 2, 3, 5, 6, 8 and 9
+-- a repair call is refused by 1, 2, 11, 3, 5, 6, 8 and 9
 abbrev pub repairConditions : Repair → List Condition
 repairConditions r =
     let g = r .crc .generator in
     when 1 (unfit (g .coefficients))
     ∷ when 2 (unfitLength (g .degree) (bits (r .packet)))
+    ∷ when 11 (unfitValues (g .degree) (r .crc .init) (r .crc .xorout))
     ∷ when 3 (unfitLimit (r .limit))
     ∷ when 5 (unfitTables (g .degree) (length (r .steps)) (length (r .firsts)))
     ∷ when 6 (wrongTables (g .degree) (g .coefficients) (r .steps) (r .firsts))

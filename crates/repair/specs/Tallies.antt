@@ -4,8 +4,8 @@ use mathlib.Core.Bool.{Bool, true, false}
 use mathlib.Core.List.{List, [], _∷_}
 use Prim.Native.Nat.{ℕ, _≤_}
 use lib.ListN.{length}
-use Rattle.poly.specs.Fit.{Fit}
 use Rattle.packet.specs.Packet.{Bytes}
+use Rattle.packet.specs.Reading.{Readable}
 use Rattle.packet.specs.declared.Crc.{Crc}
 use Rattle.checksum.specs.declared.Check.{Check}
 use Rattle.tables.specs.Tables.{stepTable, firstTable}
@@ -34,7 +34,7 @@ added false p = []
 
 -- a packet whose conditions are all past
 pub record Settleable (c : Crc) (k : Check) (limit : ℕ) (steps firsts packet : List ℕ) : Type 0 where
-  pub fit : Fit (c .generator)
+  pub readable : Readable c packet
   pub bytes : Bytes packet
   pub short : length packet ≤ 512
   pub few : limit ≤ mostPositions

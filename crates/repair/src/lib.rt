@@ -272,6 +272,8 @@ fn mend(packet: &[u8], p: Pattern, output: &mut [u8])
 // The conditions of a repair, in their order.
 fn judge_repair(
     generator: u64,
+    init: u64,
+    xorout: u64,
     check: Check,
     limit: usize,
     steps: &[u16],
@@ -279,7 +281,7 @@ fn judge_repair(
     packet: &[u8],
     output: &[u8],
 ) -> Judgement
-    ensures { λ r. ⌜ judgement r ≡ judged (repairConditions (repairRequest (crcOf generator) check limit (now (steps .entry)) (now (firsts .entry)) (now (packet .entry)) (now (output .entry)))) ⌝ }
+    ensures { λ r. ⌜ judgement r ≡ judged (repairConditions (repairRequest (crcOf generator init xorout) check limit (now (steps .entry)) (now (firsts .entry)) (now (packet .entry)) (now (output .entry)))) ⌝ }
 {
     if poly::unfit_generator(generator) {
         return Judgement::Refused(Refusal::Generator);
@@ -287,6 +289,9 @@ fn judge_repair(
     let g = Generator::of(generator);
     if packet::unfit_bytes(g, packet.len()) {
         return Judgement::Refused(Refusal::Length);
+    }
+    if packet::unfit_values(g, init, xorout) {
+        return Judgement::Refused(Refusal::Values);
     }
     if patterns::unfit_limit(limit) {
         return Judgement::Refused(Refusal::Limit);
@@ -335,6 +340,8 @@ fn conclude(
 // The verdict on a received packet, and its repair where there is one.
 pub fn repair(
     generator: u64,
+    init: u64,
+    xorout: u64,
     check: Check,
     limit: usize,
     steps: &[u16],
@@ -342,15 +349,25 @@ pub fn repair(
     packet: &[u8],
     output: &mut [u8],
 ) -> RepairAnswer
-    ensures answer { λ r. ⌜ repairAnswer r ≡ repairCall (repairRequest (crcOf generator) check limit (now (steps .entry)) (now (firsts .entry)) (now (packet .entry)) (now (output .entry))) (namedIn (repairAnswer r)) ⌝ }
-    ensures names { λ r. ⌜ NamesWell (repairRequest (crcOf generator) check limit (now (steps .entry)) (now (firsts .entry)) (now (packet .entry)) (now (output .entry))) (repairAnswer r) ⌝ }
-    ensures bytes { λ _. ⌜ now (output .exit) ≡ repairOutput (repairRequest (crcOf generator) check limit (now (steps .entry)) (now (firsts .entry)) (now (packet .entry)) (now (output .entry))) ⌝ }
+    ensures answer { λ r. ⌜ repairAnswer r ≡ repairCall (repairRequest (crcOf generator init xorout) check limit (now (steps .entry)) (now (firsts .entry)) (now (packet .entry)) (now (output .entry))) (namedIn (repairAnswer r)) ⌝ }
+    ensures names { λ r. ⌜ NamesWell (repairRequest (crcOf generator init xorout) check limit (now (steps .entry)) (now (firsts .entry)) (now (packet .entry)) (now (output .entry))) (repairAnswer r) ⌝ }
+    ensures bytes { λ _. ⌜ now (output .exit) ≡ repairOutput (repairRequest (crcOf generator init xorout) check limit (now (steps .entry)) (now (firsts .entry)) (now (packet .entry)) (now (output .entry))) ⌝ }
 {
-    let judged = judge_repair(generator, check, limit, steps, firsts, packet, output);
+    let judged = judge_repair(
+        generator,
+        init,
+        xorout,
+        check,
+        limit,
+        steps,
+        firsts,
+        packet,
+        output,
+    );
     match judged {
         Judgement::Refused(r) => RepairAnswer::Refused(r),
         Judgement::Passed => RepairAnswer::Decided(conclude(
-            packet::crc_of(generator),
+            packet::crc_of(generator, init, xorout),
             check,
             limit,
             steps,

@@ -26,7 +26,7 @@ use Rattle.rangqoda.proofs.rangqoda_repair.Tie as tie
 abbrev given : tie.After-repair → Check → ℕ → Repair
 given c check k =
     let a = c .before .before .before .before .before .before .before .before .before .args in
-    repairRequest (crcOf (a .generator)) check (a .limit) (a .step .now) (a .first .now) (a .packet .now) (take k (a .output .now))
+    repairRequest (crcOf (a .generator) (a .init) (a .xorout)) check (a .limit) (a .step .now) (a .first .now) (a .packet .now) (take k (a .output .now))
 
 abbrev request : tie.After-repair → Repair
 request c =

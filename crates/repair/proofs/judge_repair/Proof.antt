@@ -1,4 +1,4 @@
--- `judge_repair` tests conditions 1, 2, 3, 5, 6, 8 and 9 in this order.
+-- `judge_repair` tests conditions 1, 2, 11, 3, 5, 6, 8 and 9 in this order.
 use mathlib.Core.Path.{_≡_, refl, sym, ap, _∙_}
 use mathlib.Core.Bool.{not}
 use mathlib.Core.List.{List}
@@ -11,7 +11,7 @@ use Rattle.poly.specs.Polynomial.{degree}
 use Rattle.poly.specs.Fit.{Fit}
 use Rattle.poly.specs.declared.Generator.{Generator}
 use Rattle.poly.proofs.GeneratorLaws.{made-fit}
-use Rattle.packet.specs.Packet.{unfitLength, crcOf}
+use Rattle.packet.specs.Packet.{unfitLength, unfitValues, crcOf}
 use Rattle.checksum.specs.Checksum.{unfitRange}
 use Rattle.tables.specs.Tables.{unfitTables, rightTables, wrongTables}
 use Rattle.tables.proofs.TableLaws.{fit-lengths, not-wrong}
@@ -23,7 +23,7 @@ use Rattle.repair.proofs.judge_repair.Tie as tie
 abbrev conditions : tie.Start → List Condition
 conditions s =
     let a = s .args in
-    repairConditions (repairRequest (crcOf (a .generator)) (a .check) (a .limit) (a .steps .now) (a .firsts .now) (a .packet .now) (a .output .now))
+    repairConditions (repairRequest (crcOf (a .generator) (a .init) (a .xorout)) (a .check) (a .limit) (a .steps .now) (a .firsts .now) (a .packet .now) (a .output .now))
 
 -- past each condition: the entry, and what is left to test
 abbrev entry0 : tie.After-unfit-generator → tie.Start
@@ -53,29 +53,28 @@ left2 c = but (left1 (c .before .before .before)) (tested2 (c .before)) (c .if2 
 abbrev made3 : tie.Else3 → tie.After-of
 made3 c = c .before .before .before .before
 
-left3 : (c : tie.Else3) → let s = entry (made3 c) in Untested (conditions s) (drop 3 (conditions s))
-left3 c = but (left2 (c .before .before)) (c .before .unfit-limit .ensures) (c .if3 .left)
-
-tested4 : (c : tie.After-unfit-tables) → let a = entry (made3 (c .before)) .args in
-    c .unfit-tables .result ≡ unfitTables (degree (a .generator)) (length (a .steps .now)) (length (a .firsts .now))
-tested4 c =
-    let o = made3 (c .before) in
+tested3 : (c : tie.After-unfit-values) → let a = entry (c .before .before .before) .args in
+    c .unfit-values .result ≡ unfitValues (degree (a .generator)) (a .init) (a .xorout)
+tested3 c =
+    let o = c .before .before .before in
     let a = entry o .args in
-    c .unfit-tables .ensures ∙ ap (λ (g : Generator). unfitTables (g .degree) (length (a .steps .now)) (length (a .firsts .now))) (o .of .ensures)
+    c .unfit-values .ensures ∙ ap (λ (g : Generator). unfitValues (g .degree) (a .init) (a .xorout)) (o .of .ensures)
+
+left3 : (c : tie.Else3) → let s = entry (made3 c) in Untested (conditions s) (drop 3 (conditions s))
+left3 c = but (left2 (c .before .before)) (tested3 (c .before)) (c .if3 .left)
 
 abbrev made4 : tie.Else4 → tie.After-of
 made4 c = made3 (c .before .before)
 
 left4 : (c : tie.Else4) → let s = entry (made4 c) in Untested (conditions s) (drop 4 (conditions s))
-left4 c = but (left3 (c .before .before)) (tested4 (c .before)) (c .if4 .left)
+left4 c = but (left3 (c .before .before)) (c .before .unfit-limit .ensures) (c .if4 .left)
 
-tested5 : (c : tie.After-verify) → let a = entry (made4 (c .before)) .args in
-    not (c .verify .result) ≡ wrongTables (degree (a .generator)) (a .generator) (a .steps .now) (a .firsts .now)
+tested5 : (c : tie.After-unfit-tables) → let a = entry (made4 (c .before)) .args in
+    c .unfit-tables .result ≡ unfitTables (degree (a .generator)) (length (a .steps .now)) (length (a .firsts .now))
 tested5 c =
     let o = made4 (c .before) in
     let a = entry o .args in
-    ap not (c .verify .ensures ∙ ap (λ (g : Generator). rightTables (g .degree) (g .coefficients) (a .steps .now) (a .firsts .now)) (o .of .ensures))
-    ∙ sym (not-wrong _ _ _ _)
+    c .unfit-tables .ensures ∙ ap (λ (g : Generator). unfitTables (g .degree) (length (a .steps .now)) (length (a .firsts .now))) (o .of .ensures)
 
 abbrev made5 : tie.Else5 → tie.After-of
 made5 c = made4 (c .before .before)
@@ -83,13 +82,27 @@ made5 c = made4 (c .before .before)
 left5 : (c : tie.Else5) → let s = entry (made5 c) in Untested (conditions s) (drop 5 (conditions s))
 left5 c = but (left4 (c .before .before)) (tested5 (c .before)) (c .if5 .left)
 
-left6 : (c : tie.Else6) → let s = entry (made5 (c .before)) in Untested (conditions s) (drop 6 (conditions s))
-left6 c = but (left5 (c .before)) (copy-fit _ _ (c .if6 .left)) refl
+tested6 : (c : tie.After-verify) → let a = entry (made5 (c .before)) .args in
+    not (c .verify .result) ≡ wrongTables (degree (a .generator)) (a .generator) (a .steps .now) (a .firsts .now)
+tested6 c =
+    let o = made5 (c .before) in
+    let a = entry o .args in
+    ap not (c .verify .ensures ∙ ap (λ (g : Generator). rightTables (g .degree) (g .coefficients) (a .steps .now) (a .firsts .now)) (o .of .ensures))
+    ∙ sym (not-wrong _ _ _ _)
 
-tested7 : (c : tie.After-unfit-range) → let a = entry (made5 (c .before .before)) .args in
+abbrev made6 : tie.Else6 → tie.After-of
+made6 c = made5 (c .before .before)
+
+left6 : (c : tie.Else6) → let s = entry (made6 c) in Untested (conditions s) (drop 6 (conditions s))
+left6 c = but (left5 (c .before .before)) (tested6 (c .before)) (c .if6 .left)
+
+left7 : (c : tie.Else7) → let s = entry (made6 (c .before)) in Untested (conditions s) (drop 7 (conditions s))
+left7 c = but (left6 (c .before)) (copy-fit _ _ (c .if7 .left)) refl
+
+tested8 : (c : tie.After-unfit-range) → let a = entry (made6 (c .before .before)) .args in
     c .unfit-range .result ≡ unfitRange (degree (a .generator)) (8 * length (a .packet .now)) (a .check)
-tested7 c =
-    let o = made5 (c .before .before) in
+tested8 c =
+    let o = made6 (c .before .before) in
     let a = entry o .args in
     c .unfit-range .ensures ∙ ap (λ (g : Generator). unfitRange (g .degree) (8 * length (a .packet .now)) (a .check)) (o .of .ensures)
 
@@ -99,31 +112,37 @@ returns c = stops (left0 (c .before)) (c .before .unfit-generator .ensures) (c .
 returns-2 : tie.Need-returns-2
 returns-2 c = stops (left1 (c .before .before .before)) (tested2 (c .before)) (c .if2 .taken)
 
-returns-3 : tie.Need-returns-3
-returns-3 c = stops (left2 (c .before .before)) (c .before .unfit-limit .ensures) (c .if3 .taken)
+unfit-values-requires : tie.Need-unfit-values-requires
+unfit-values-requires c κs = fit (c .before .before)
 
-unfit-tables-requires : tie.Need-unfit-tables-requires
-unfit-tables-requires c κs = fit (made3 c)
+returns-3 : tie.Need-returns-3
+returns-3 c = stops (left2 (c .before .before)) (tested3 (c .before)) (c .if3 .taken)
 
 returns-4 : tie.Need-returns-4
-returns-4 c = stops (left3 (c .before .before)) (tested4 (c .before)) (c .if4 .taken)
+returns-4 c = stops (left3 (c .before .before)) (c .before .unfit-limit .ensures) (c .if4 .taken)
 
-verify-requires : tie.Need-verify-requires
-verify-requires c κs =
-    let full = fit-lengths _ _ _ (sym (c .before .unfit-tables .ensures) ∙ c .if4 .left) in
-    (record { fit = fit (made4 c); full = full .0 }, record { fit = fit (made4 c); full = full .1 })
+unfit-tables-requires : tie.Need-unfit-tables-requires
+unfit-tables-requires c κs = fit (made4 c)
 
 returns-5 : tie.Need-returns-5
 returns-5 c = stops (left4 (c .before .before)) (tested5 (c .before)) (c .if5 .taken)
 
+verify-requires : tie.Need-verify-requires
+verify-requires c κs =
+    let full = fit-lengths _ _ _ (sym (c .before .unfit-tables .ensures) ∙ c .if5 .left) in
+    (record { fit = fit (made5 c); full = full .0 }, record { fit = fit (made5 c); full = full .1 })
+
 returns-6 : tie.Need-returns-6
-returns-6 c = stops (left5 (c .before)) (copy-unfit _ _ (c .if6 .taken)) refl
+returns-6 c = stops (left5 (c .before .before)) (tested6 (c .before)) (c .if6 .taken)
 
 returns-7 : tie.Need-returns-7
-returns-7 c = stops (left6 (c .before .before)) (tested7 (c .before)) (c .if7 .taken)
+returns-7 c = stops (left6 (c .before)) (copy-unfit _ _ (c .if7 .taken)) refl
 
 returns-8 : tie.Need-returns-8
-returns-8 c = goes-on (but (left6 (c .before .before)) (tested7 (c .before)) (c .if7 .left))
+returns-8 c = stops (left7 (c .before .before)) (tested8 (c .before)) (c .if8 .taken)
+
+returns-9 : tie.Need-returns-9
+returns-9 c = goes-on (but (left7 (c .before .before)) (tested8 (c .before)) (c .if8 .left))
 
 pub judge-repair-spec : {M : Type 1} → statement M
 judge-repair-spec =
@@ -134,13 +153,15 @@ judge-repair-spec =
     (λ c κs. search needs)
     (λ c κs. search needs)
     returns-2
-    (λ c κs. search needs)
+    unfit-values-requires
     returns-3
-    unfit-tables-requires
-    returns-4
-    verify-requires
-    returns-5
-    returns-6
     (λ c κs. search needs)
+    returns-4
+    unfit-tables-requires
+    returns-5
+    verify-requires
+    returns-6
     returns-7
-    returns-8)
+    (λ c κs. search needs)
+    returns-8
+    returns-9)

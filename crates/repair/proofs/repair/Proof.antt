@@ -9,10 +9,10 @@ use lib.ListN.{length}
 use Rattle.base.specs.Outcome.{refused, accepted}
 use Rattle.base.proofs.JudgeLaws.{turned-down, let-through, none-applies}
 use Rattle.poly.specs.Polynomial.{degree}
-use Rattle.poly.proofs.GeneratorLaws.{fit-accepted}
 use Rattle.packet.specs.Packet.{Bytes, crcOf}
 use Rattle.packet.specs.declared.Crc.{Crc}
 use Rattle.packet.proofs.PacketLaws.{fit-length}
+use Rattle.packet.proofs.ReadLaws.{fit-readable}
 use Rattle.checksum.proofs.ConditionLaws.{fit-range}
 use Rattle.tables.proofs.TableLaws.{right-unless-wrong}
 use Rattle.patterns.proofs.MarkLaws.{fit-limit}
@@ -28,7 +28,7 @@ use Rattle.repair.proofs.repair.Tie as tie
 abbrev request : tie.Start → Repair
 request s =
     let a = s .args in
-    repairRequest (crcOf (a .generator)) (a .check) (a .limit) (a .steps .now) (a .firsts .now) (a .packet .now) (a .output .now)
+    repairRequest (crcOf (a .generator) (a .init) (a .xorout)) (a .check) (a .limit) (a .steps .now) (a .firsts .now) (a .packet .now) (a .output .now)
 
 abbrev entry : tie.After-judge-repair → tie.Start
 entry c = c .before .before .before .before .before .before
@@ -47,7 +47,7 @@ conclude-requires c κs =
     let range = fit-range n (8 * length p) (a .check) (clear 9) in
     rw (m .crc-of .ensures) (
       record {
-        fit = fit-accepted (a .generator) (clear 1);
+        readable = fit-readable (a .generator) (a .init) (a .xorout) p (clear 1) (clear 2) (clear 11);
         bytes = b;
         short = omega (arith, fit-length n (8 * length p) (clear 2) .1);
         few = fit-limit (a .limit) (clear 3);

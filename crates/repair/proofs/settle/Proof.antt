@@ -36,9 +36,9 @@ tally-all-requires c κs =
     let a = entry w .args in
     let p = entry w .pre in (
       record {
-        fit = p .fit;
+        fit = p .readable .fit;
         short = omega (arith, p .short);
-        within = rw (w .before .remainder-of .ensures) (remainder-lt (a .crc) (p .fit .divisor) (a .packet .now));
+        within = rw (w .before .remainder-of .ensures) (remainder-lt (a .crc) (p .readable .fit .divisor) (a .packet .now));
         rightSteps = p .rightSteps;
         rightFirsts = p .rightFirsts;
       },
