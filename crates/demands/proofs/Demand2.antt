@@ -7,20 +7,23 @@ use mathlib.Core.List.{List}
 use Prim.Native.Nat.{ℕ, _+_, _-_, _*_, _^_, _<_, _≤_}
 use native.Mathlib.Omega.{arith}
 use borrow.Author.Tests.{eq-eqb}
+use lib.Bits.{bitXor}
 use lib.ListN.{length, getD}
+use Rattle.base.specs.Lists.{All}
 use Rattle.base.specs.Outcome.{refused, accepted}
 use Rattle.base.proofs.JudgeLaws.{applied, judge-accepted, judge-value, judge-clear}
-use Rattle.poly.specs.Polynomial.{degree, rem}
+use Rattle.poly.specs.Polynomial.{degree, rem, powers}
 use Rattle.poly.specs.Generators.{unfit, generatorOf}
 use Rattle.poly.specs.Fit.{Fit}
 use Rattle.poly.specs.declared.Generator.{Generator}
 use Rattle.poly.proofs.GeneratorLaws.{fit-accepted, fit-small}
 use Rattle.poly.proofs.DivisionLaws.{quotient, remainder-unique}
-use Rattle.packet.specs.Packet.{Bytes, bits, polynomial, unfitLength, remainder, sealed, bitAt}
+use Rattle.packet.specs.Packet.{Bytes, bits, unfitLength, unfitValues, asRead, remainder, sealed, bitAt, flips}
 use Rattle.packet.specs.Calls.{packetConditions, remainderCall, sealCall, sealPacket}
 use Rattle.packet.specs.declared.Crc.{Crc}
 use Rattle.packet.proofs.PacketLaws.{fit-length}
-use Rattle.packet.proofs.RemainderLaws.{remainder-lt}
+use Rattle.packet.proofs.FlipLaws.{flips-length}
+use Rattle.packet.proofs.RemainderLaws.{remainder-lt, remainder-flips}
 use Rattle.packet.proofs.SealLaws.{sealed-length, sealed-remainder, sealed-same, sealed-bit, sealed-only}
 use Rattle.checksum.specs.Checksum.{total, reduced, range, passes, withField, stamped}
 use Rattle.checksum.specs.Calls.{sumCall, stampConditions, stampCall, stampPacket}
@@ -44,19 +47,32 @@ module _ (c : Crc) (numbered : Numbered c) (s : List ℕ) (b : Bytes s) where
   numbered-fit : unfit (c .generator .coefficients) ≡ false → Fit (c .generator)
   numbered-fit h = subst Fit numbered (fit-accepted (c .generator .coefficients) h)
 
-  pub the-remainder : (r : ℕ) → remainderCall c s ≡ accepted r → Remains (c .generator .degree) (c .generator .coefficients) (polynomial s) r
+  pub the-remainder : (r : ℕ) → remainderCall c s ≡ accepted r → Remains (c .generator .degree) (c .generator .coefficients) (asRead c s) r
   unfolding remainder
   the-remainder r h =
       let n : ℕ = c .generator .degree in
       let g : ℕ = c .generator .coefficients in
       let d = numbered-fit (judge-clear (packetConditions c (bits s)) (remainder c s) r h 1) .divisor in
-      let left : rem n g (polynomial s) ≡ r = judge-value (packetConditions c (bits s)) (remainder c s) r h in
-      subst (Remains n g (polynomial s)) left
+      let left : rem n g (asRead c s) ≡ r = judge-value (packetConditions c (bits s)) (remainder c s) r h in
+      subst (Remains n g (asRead c s)) left
       (record {
-        quotient = quotient n g (d .low) (d .high) (polynomial s);
+        quotient = quotient n g (d .low) (d .high) (asRead c s);
         below = remainder-lt c d s;
-        only = remainder-unique n g (d .low) (d .high) (polynomial s);
+        only = remainder-unique n g (d .low) (d .high) (asRead c s);
       })
+
+  -- flipping positions adds their powers of x, whatever the initial and the final value are
+  pub flips-add : (r : ℕ) → remainderCall c s ≡ accepted r → (ps : List ℕ) → All (λ (p : ℕ). p < bits s) ps
+      → remainderCall c (flips s ps) ≡ accepted (bitXor r (rem (c .generator .degree) (c .generator .coefficients) (powers ps)))
+  flips-add r h ps within =
+      let ts = packetConditions c (bits s) in
+      let clear = judge-clear ts (remainder c s) r h in
+      let d = numbered-fit (clear 1) .divisor in
+      let long : unfitLength (c .generator .degree) (bits (flips s ps)) ≡ false = rw (flips-length s ps) (clear 2) in
+      let sum : remainder c (flips s ps) ≡ bitXor r (rem (c .generator .degree) (c .generator .coefficients) (powers ps)) =
+      remainder-flips c d s ps within b
+      ∙ ap (λ (x : ℕ). bitXor x (rem (c .generator .degree) (c .generator .coefficients) (powers ps))) (judge-value ts (remainder c s) r h) in
+      simp (clear 1, long, clear 11) (ap accepted sum)
 
   -- what an accepted seal leaves
   module _ (h : sealCall c s ≡ accepted tt) where
@@ -78,7 +94,8 @@ module _ (c : Crc) (numbered : Numbered c) (s : List ℕ) (b : Bytes s) where
         let d = numbered-fit clear .divisor in
         let same = sealed-length c d s b longer in
         let long : unfitLength (c .generator .degree) (bits (sealed c s)) ≡ false = rw same clearLength in
-        ap (remainderCall c) leaves ∙ simp (clear, long, sealed-remainder c d s b longer)
+        let values = judge-clear (packetConditions c (bits s)) tt tt h 11 in
+        ap (remainderCall c) leaves ∙ simp (clear, long, values, sealed-remainder c d s b longer)
 
     -- it is as long as before, and no bit but the last n changed
     pub seal-keeps : (length (sealPacket c s) ≡ length s)
@@ -187,10 +204,11 @@ module _ (g : ℕ) (k : Check) (f : ℕ) (s : List ℕ) (b : Bytes s) (h : stamp
       let fits = fit-field k f (conditions-clear 10) in
       rw stamp-leaves (stamped-field k f s (omega (arith, inside)), stamped-other k f s)
 
-  -- stamped and then sealed, a packet passes both checks
-  pub stamp-and-seal : (c : Crc) → generatorOf g ≡ c .generator → passesBoth c k (sealPacket c (stampPacket g k f s)) ≡ true
+  -- stamped and then sealed, by accepted initial and final values, a packet passes both checks
+  pub stamp-and-seal : (c : Crc) → generatorOf g ≡ c .generator → unfitValues (c .generator .degree) (c .init) (c .xorout) ≡ false
+      → passesBoth c k (sealPacket c (stampPacket g k f s)) ≡ true
   unfolding passesBoth
-  stamp-and-seal c made =
+  stamp-and-seal c made values =
       let t = stamped k f s in
       let bt = stamped-bytes k f s b in
       let same = stamped-length k f s in
@@ -202,7 +220,7 @@ module _ (g : ℕ) (k : Check) (f : ℕ) (s : List ℕ) (b : Bytes s) (h : stamp
       let generators : unfit (c .generator .coefficients) ≡ false = subst (λ (w : Generator). unfit (w .coefficients) ≡ false) made (conditions-clear 1) in
       let lengths : unfitLength (c .generator .degree) (bits t) ≡ false =
       rw same (subst (λ (w : Generator). unfitLength (w .degree) (bits s) ≡ false) made (conditions-clear 2)) in
-      let whole : sealPacket c (stampPacket g k f s) ≡ sealed c t = ap (sealPacket c) stamp-leaves ∙ simp (generators, lengths) in
+      let whole : sealPacket c (stampPacket g k f s) ≡ sealed c t = ap (sealPacket c) stamp-leaves ∙ simp (generators, lengths, values) in
       rw whole
       (simp (
         eq-eqb _ _ (sealed-remainder c d t bt long),

@@ -1,7 +1,7 @@
 -- The rows worked by hand hold of the meanings: every definition is unfolded, and the checker computes both sides.
 use mathlib.Core.Path.{refl}
 use Rattle.poly.specs.Polynomial.{down, downIn, degree, degreeIn, reduce, rem, powers}
-use Rattle.packet.specs.Packet.{polynomial, polynomialAfter, remainder, flip, flips}
+use Rattle.packet.specs.Packet.{polynomial, polynomialAfter, asRead, remainder, flip, flips}
 use Rattle.tables.specs.Tables.{power, least, period, step, first}
 use Rattle.checksum.specs.Checksum.{words, folded, sumFrom, sumOf, range, passes}
 use Rattle.patterns.specs.Order.{lower, before}
@@ -10,7 +10,7 @@ use Rattle.repair.specs.Verdicts.{passesBoth, candidates}
 use Rattle.demands.specs.Worked.{Worked}
 
 pub worked-rows : Worked
-unfolding down downIn degree degreeIn reduce rem powers polynomial polynomialAfter remainder flip flips power least period step first words folded sumFrom sumOf range passes lower before syndrome choose upTo sift listing follows passesBoth candidates
+unfolding down downIn degree degreeIn reduce rem powers polynomial polynomialAfter asRead remainder flip flips power least period step first words folded sumFrom sumOf range passes lower before syndrome choose upTo sift listing follows passesBoth candidates
 worked-rows =
     record {
       row1 = refl;
@@ -26,4 +26,6 @@ worked-rows =
       row11 = λ limit named. refl;
       row12 = (refl, λ named. refl);
       row13 = (λ named. refl, λ named. refl);
+      row14 = (refl, refl, refl);
+      row15 = (refl, refl, refl);
     }

@@ -5,7 +5,7 @@ use mathlib.Core.Bool.{false}
 use mathlib.Core.List.{List}
 use lib.ListN.{length}
 use Rattle.poly.specs.Generators.{unfit}
-use Rattle.packet.specs.Packet.{Bytes, bits, unfitLength}
+use Rattle.packet.specs.Packet.{Bytes, bits, unfitLength, unfitValues}
 use Rattle.packet.specs.declared.Crc.{Crc}
 use Rattle.checksum.specs.Checksum.{unfitRange}
 use Rattle.checksum.specs.declared.Check.{Check}
@@ -16,12 +16,13 @@ use Rattle.pages.specs.Sequences.{Lending}
 use Rattle.repair.specs.Calls.{Repair, repairRequest}
 use Rattle.demands.specs.Demand2.{Numbered}
 
--- an accepted generator, packet s of bytes, limit and range: none of conditions 1, 2, 3 and 9 applies
+-- an accepted generator, packet s of bytes, initial and final value, limit and range: none of conditions 1, 2, 11, 3 and 9 applies
 pub record Supposed (c : Crc) (k : Check) (limit : ℕ) (s : List ℕ) : Type 0 where
   pub bytes : Bytes s
   pub numbered : Numbered c
   pub fitGenerator : unfit (c .generator .coefficients) ≡ false
   pub fitLength : unfitLength (c .generator .degree) (bits s) ≡ false
+  pub fitValues : unfitValues (c .generator .degree) (c .init) (c .xorout) ≡ false
   pub fitLimit : unfitLimit limit ≡ false
   pub fitRange : unfitRange (c .generator .degree) (bits s) k ≡ false
 

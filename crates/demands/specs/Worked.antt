@@ -5,7 +5,7 @@ use mathlib.Core.List.{List, [], _∷_}
 use Rattle.poly.specs.Polynomial.{degree, rem}
 use Rattle.poly.specs.Generators.{generatorOf, five}
 use Rattle.poly.specs.declared.Generator.{Generator}
-use Rattle.packet.specs.Packet.{crcOf}
+use Rattle.packet.specs.Packet.{crcOf, remainder}
 use Rattle.tables.specs.Tables.{period, step, first}
 use Rattle.checksum.specs.Checksum.{sumOf, checkOf}
 use Rattle.checksum.specs.declared.Check.{Check}
@@ -21,6 +21,10 @@ listOf g l limit s = listing (g .degree) (g .coefficients) l limit s
 -- the range [0, 2)
 abbrev pub firstTwo : Check
 firstTwo = checkOf 0 2
+
+-- the digits 1 to 9 as text, and two zeros
+abbrev pub checked : List ℕ
+checked = 0x31 ∷ 0x32 ∷ 0x33 ∷ 0x34 ∷ 0x35 ∷ 0x36 ∷ 0x37 ∷ 0x38 ∷ 0x39 ∷ 0 ∷ 0 ∷ []
 
 -- bits are given as the digits of a number, packets as their bytes; a verdict is the same whatever pattern is named,
 -- but for the pattern of Several, and Intact is at every N
@@ -46,10 +50,15 @@ pub record Worked : Type 0 where
   -- sum of 00 01 F2 03 F4 F5 F6 F7: DDF2h
   pub row10 : sumOf (0x00 ∷ 0x01 ∷ 0xF2 ∷ 0x03 ∷ 0xF4 ∷ 0xF5 ∷ 0xF6 ∷ 0xF7 ∷ []) ≡ 0xDDF2
   -- five, range [0,2), FF FF 05: Intact
-  pub row11 : (limit : ℕ) (named : List ℕ) → verdict (crcOf 53) firstTwo limit (0xFF ∷ 0xFF ∷ 0x05 ∷ []) named ≡ intact
+  pub row11 : (limit : ℕ) (named : List ℕ) → verdict (crcOf 53 0 0) firstTwo limit (0xFF ∷ 0xFF ∷ 0x05 ∷ []) named ≡ intact
   -- 7F FF 05, N 1: lists {8},{23}; Repaired {23}
-  pub row12 : (packetList (crcOf 53) 1 (0x7F ∷ 0xFF ∷ 0x05 ∷ []) ≡ (8 ∷ []) ∷ (23 ∷ []) ∷ [])
-      × ((named : List ℕ) → verdict (crcOf 53) firstTwo 1 (0x7F ∷ 0xFF ∷ 0x05 ∷ []) named ≡ repaired (23 ∷ []))
+  pub row12 : (packetList (crcOf 53 0 0) 1 (0x7F ∷ 0xFF ∷ 0x05 ∷ []) ≡ (8 ∷ []) ∷ (23 ∷ []) ∷ [])
+      × ((named : List ℕ) → verdict (crcOf 53 0 0) firstTwo 1 (0x7F ∷ 0xFF ∷ 0x05 ∷ []) named ≡ repaired (23 ∷ []))
   -- FF FF 06, N 1; N 2: None; Several, 2
-  pub row13 : ((named : List ℕ) → verdict (crcOf 53) firstTwo 1 (0xFF ∷ 0xFF ∷ 0x06 ∷ []) named ≡ nothing)
-      × ((named : List ℕ) → verdict (crcOf 53) firstTwo 2 (0xFF ∷ 0xFF ∷ 0x06 ∷ []) named ≡ several 2 named)
+  pub row13 : ((named : List ℕ) → verdict (crcOf 53 0 0) firstTwo 1 (0xFF ∷ 0xFF ∷ 0x06 ∷ []) named ≡ nothing)
+      × ((named : List ℕ) → verdict (crcOf 53 0 0) firstTwo 2 (0xFF ∷ 0xFF ∷ 0x06 ∷ []) named ≡ several 2 named)
+  -- five, one byte 00: I 31, F 0; I 0, F 31; both 31: remainders 25; 31; 6
+  pub row14 : (remainder (crcOf 53 31 0) (0x00 ∷ []) ≡ 25) × (remainder (crcOf 53 0 31) (0x00 ∷ []) ≡ 31) × (remainder (crcOf 53 31 31) (0x00 ∷ []) ≡ 6)
+  -- ccitt, the nine bytes of check values and two of zero: I FFFFh, F 0; both FFFFh; I 1D0Fh, F 0: 29B1h; D64Eh; E5CCh
+  pub row15 : (remainder (crcOf 0x11021 0xFFFF 0) checked ≡ 0x29B1) × (remainder (crcOf 0x11021 0xFFFF 0xFFFF) checked ≡ 0xD64E)
+      × (remainder (crcOf 0x11021 0x1D0F 0) checked ≡ 0xE5CC)

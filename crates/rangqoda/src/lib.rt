@@ -81,12 +81,7 @@ pub extern "C" fn rangqoda_remainder(
 }
 
 #[no_mangle]
-pub extern "C" fn rangqoda_seal(
-    generator: u64,
-    init: u64,
-    xorout: u64,
-    packet: &mut [u8],
-) -> u32
+pub extern "C" fn rangqoda_seal(generator: u64, init: u64, xorout: u64, packet: &mut [u8]) -> u32
     ensures answer { λ r. ⌜ r ≡ code (sealCall (crcOf generator init xorout) (now (packet .entry))) ⌝ }
     ensures packet { λ _. ⌜ now (packet .exit) ≡ sealPacket (crcOf generator init xorout) (now (packet .entry)) ⌝ }
 {

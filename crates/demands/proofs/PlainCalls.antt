@@ -1,0 +1,40 @@
+-- With initial and final values 0, remainder, seal and repair answer and leave what they do for the generator alone: every
+-- equation holds of every input, refused or accepted.
+use mathlib.Core.Path.{_≡_, ap, _∙_}
+use mathlib.Core.Bool.{false}
+use mathlib.Core.List.{List}
+use Prim.Native.Nat.{ℕ, _^_}
+use borrow.Author.Tests.{lt-leb}
+use lib.Pow.{pow-pos}
+use Rattle.poly.specs.Polynomial.{rem}
+use Rattle.packet.specs.Packet.{unfitValues, remainder, sealed}
+use Rattle.packet.specs.Calls.{remainderCall, sealCall, sealPacket}
+use Rattle.packet.specs.declared.Crc.{Crc}
+use Rattle.packet.proofs.ReadLaws.{read-plain}
+use Rattle.repair.specs.Verdicts.{passesBoth, candidates}
+use Rattle.repair.specs.Calls.{Repair, repairCall, repairOutput}
+use Rattle.demands.specs.Plain.{plainRemainder, plainRemainderCall, plainSealCall, plainSealPacket, plainRepairCall, plainRepairOutput}
+
+module _ (c : Crc) (i : c .init ≡ 0) (f : c .xorout ≡ 0) where
+  zeros-fit : unfitValues (c .generator .degree) (c .init) (c .xorout) ≡ false
+  unfolding unfitValues
+  zeros-fit = rw (i, f, lt-leb _ _ (pow-pos (c .generator .degree)))
+
+  same-remainder : (s : List ℕ) → remainder c s ≡ plainRemainder (c .generator) s
+  unfolding remainder
+  same-remainder s = ap (rem (c .generator .degree) (c .generator .coefficients)) (read-plain c s i f)
+
+  pub plain-remainder : (s : List ℕ) → remainderCall c s ≡ plainRemainderCall (c .generator) s
+  plain-remainder s = rw (zeros-fit, same-remainder s)
+
+  pub plain-seal : (s : List ℕ) → (sealCall c s ≡ plainSealCall (c .generator) s) × (sealPacket c s ≡ plainSealPacket (c .generator) s)
+  unfolding sealed
+  plain-seal s = (rw zeros-fit, rw (zeros-fit, same-remainder s))
+
+pub plain-repair : (r : Repair) → r .crc .init ≡ 0 → r .crc .xorout ≡ 0
+    → ((named : List ℕ) → repairCall r named ≡ plainRepairCall r named) × (repairOutput r ≡ plainRepairOutput r)
+unfolding passesBoth candidates
+plain-repair r i f =
+    let e = same-remainder (r .crc) i f (r .packet) in
+    let z = zeros-fit (r .crc) i f in
+    (λ named. rw (z, e), rw (z, e))
