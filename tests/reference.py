@@ -18,6 +18,20 @@ def divide(value, generator):
     return value
 
 
+def as_read(packet, generator, initial, final):
+    """The packet's bits as a number, with the initial value XORed into the first of them and the final value into the last."""
+    degree = degree_of(generator)
+    bits = [byte >> place & 1 for byte in packet for place in range(7, -1, -1)]
+    for place in range(degree):
+        bits[place] ^= initial >> (degree - 1 - place) & 1
+        bits[len(bits) - degree + place] ^= final >> (degree - 1 - place) & 1
+    return int("".join(map(str, bits)), 2)
+
+
+def remainder_of(packet, generator, initial, final):
+    return divide(as_read(packet, generator, initial, final), generator)
+
+
 def unfit_generator(generator):
     """Condition 1."""
     return generator % 2 == 0 or not 3 <= degree_of(generator) <= 16
@@ -26,6 +40,11 @@ def unfit_generator(generator):
 def unfit_length(generator, bits):
     """Condition 2."""
     return not degree_of(generator) < bits <= 4096
+
+
+def unfit_values(generator, initial, final):
+    """Condition 11."""
+    return max(initial, final) >= 2 ** degree_of(generator)
 
 
 def checksum(data):

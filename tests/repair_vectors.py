@@ -13,7 +13,7 @@ from itertools import combinations, product
 from pathlib import Path
 from random import Random
 
-from reference import CCITT, FIVE, checksum, degree_of, divide, filled, fnv, unfit_generator, unfit_length
+from reference import CCITT, FIVE, checksum, degree_of, divide, filled, fnv, remainder_of, unfit_generator, unfit_length, unfit_values
 
 TARGET = Path(__file__).resolve().parent.parent / "crates" / "repair_test"
 THREE, EIGHT = 11, 0x107  # degrees 3 and 8
@@ -68,10 +68,10 @@ assert sorted(looked_up(FIVE, 24, 3, 9)) == sorted(every_pattern(FIVE, 24, 3)[9]
 assert sorted(looked_up(CCITT, 40, 3, 0x1021)) == sorted(every_pattern(CCITT, 40, 3)[0x1021])
 
 
-def verdict(generator, a, e, limit, packet):
+def verdict(generator, a, e, limit, packet, values=(0, 0)):
     """The verdict: its kind, and the patterns that pass."""
     bits = 8 * len(packet)
-    syndrome = divide(int.from_bytes(packet, "big"), generator)
+    syndrome = remainder_of(packet, generator, *values)
     if syndrome == 0 and checksum(packet[a:e]) == 0xFFFF:
         return "intact", []
     small = bits <= SMALL
@@ -95,7 +95,7 @@ class Group:
     def head(self):
         return " ".join(map(str, [0, self.generator, self.size, *self.change, *self.lent, len(self.given)]))
 
-    def refusal(self, generator, a, e, limit, packet, room):
+    def refusal(self, generator, values, a, e, limit, packet, room):
         """The first condition that refuses a repair, or 0."""
         degree = degree_of(generator)
         bits = 8 * len(packet)
@@ -103,6 +103,8 @@ class Group:
             return 1
         if unfit_length(generator, bits):
             return 2
+        if unfit_values(generator, *values):
+            return 11
         if not 1 <= limit <= 4:
             return 3
         if self.lent != (2**degree, 2**degree):
@@ -113,39 +115,38 @@ class Group:
             return 8
         return 0 if a < e and 8 * e <= bits - degree else 9
 
-    def line(self, generator, a, e, limit, packet, room):
+    def line(self, generator, values, a, e, limit, packet, room):
         """What the program prints for one call."""
         before = filled(room, 1)
-        number = self.refusal(generator, a, e, limit, packet, room)
+        number = self.refusal(generator, values, a, e, limit, packet, room)
         if number:
             return f"refused {number} {fnv(before)}"
-        kind, passing = verdict(generator, a, e, limit, packet)
+        kind, passing = verdict(generator, a, e, limit, packet, values)
         kinds[kind] = kinds.get(kind, 0) + 1
         copy = flip(packet, passing[0]) if kind == "repaired" else before
         published = {"intact": packet, "repaired": copy}.get(kind, b"")
         shown = {"repaired": "".join(f"{p} " for p in (passing or [()])[0]), "several": f"{len(passing)} 0 65535 "}
         return f"{kind} {shown.get(kind, '')}{fnv(copy)} {len(published)} {fnv(published)}"
 
-    def add(self, a, e, limit, packet, first=0, count=0, room=None, generator=None, seed=None):
+    def add(self, a, e, limit, packet, first=0, count=0, room=None, generator=None, seed=None, values=(0, 0)):
         """A call, and one with each of `count` positions from `first` on flipped alone."""
         generator = self.generator if generator is None else generator
         room = len(packet) if room is None else room
-        given = [x for y in (generator, a, e, limit) for x in divmod(y, 2**32)]
+        given = [x for y in (generator, *values, a, e, limit) for x in divmod(y, 2**32)]
         data = [1, *packet] if seed is None else [0, seed]
         self.given.append(" ".join(map(str, [*given, len(packet), *data, room, first, count])))
         for positions in ((), *((p,) for p in range(first, first + count))):
-            self.expected.append(self.line(generator, a, e, limit, flip(packet, positions), room))
+            self.expected.append(self.line(generator, values, a, e, limit, flip(packet, positions), room))
 
 
-def sent(generator, length, a, e):
+def sent(generator, length, a, e, values=(0, 0)):
     """A packet that passes both checks: random bytes, stamped at a word of the range, then sealed."""
     packet = bytearray(random.randbytes(length))
     field = a + 2 * random.randrange((e - a) // 2)
     packet[field : field + 2] = bytes(2)
     packet[field : field + 2] = (0xFFFF - checksum(bytes(packet[a:e]))).to_bytes(2, "big")
-    value = int.from_bytes(packet, "big")
-    packet = (value ^ divide(value, generator)).to_bytes(length, "big")
-    assert divide(int.from_bytes(packet, "big"), generator) == 0 and checksum(packet[a:e]) == 0xFFFF
+    packet = (int.from_bytes(packet, "big") ^ remainder_of(packet, generator, *values)).to_bytes(length, "big")
+    assert remainder_of(packet, generator, *values) == 0 and checksum(packet[a:e]) == 0xFFFF
     return packet
 
 
@@ -245,12 +246,29 @@ def long_packets():
         five.add(0, length - 1, 1, flip(packet, (0,)), 8 * length - 3, 3)
 
 
+def with_values():
+    """Sent packets of other initial and final values, and the same packets taken for ones of both 0; packets of less than 2n
+    bits, in which no range can pass."""
+    for generator, length in ((THREE, 4), (FIVE, 4), (EIGHT, 5), (CCITT, 5), (CCITT, 6)):
+        group = Group(generator)
+        bits, end, ones = 8 * length, last_end(generator, length), 2 ** degree_of(generator) - 1
+        for values in ((ones, 0), (0, ones), (ones, ones), (random.randint(1, ones), random.randint(1, ones))):
+            packet = sent(generator, length, 0, end, values)
+            group.add(0, end, 1, packet, 0, bits, values=values)
+            group.add(0, end, 2, flip(packet, random.sample(range(bits), 1)), 0, bits, values=values)
+            group.add(0, end, 3, flip(packet, random.sample(range(bits), 2)), values=values)
+            group.add(0, end, 2, packet)
+    ccitt = Group(CCITT)
+    for values in ((0xFFFF, 0), (0xFFFF, 0xFFFF), (1, 0x8000)):
+        ccitt.add(0, 1, 2, random.randbytes(3), 0, 24, values=values)
+
+
 def refused_in_order():
-    """Every choice of the seven conditions: the lowest of those that apply is the answer."""
+    """Every choice of the eight conditions: the first of those that apply is the answer."""
     packet = bytes.fromhex("7FFF05")
     for lent, change in product(((32, 32), (31, 32)), ((0, 0, 0), (0, 1, 26))):
         group = Group(FIVE, change=change, lent=lent)
-        for one, two, three, eight, nine in product((False, True), repeat=5):
+        for one, two, eleven, three, eight, nine in product((False, True), repeat=6):
             data = b"" if two else packet
             group.add(
                 0,
@@ -259,6 +277,7 @@ def refused_in_order():
                 data,
                 room=len(data) + 1 if eight else len(data),
                 generator=52 if one else FIVE,
+                values=((32, 0), (0, 2**64 - 1))[three] if eleven else (31, 31),
             )
 
 
@@ -271,6 +290,9 @@ def refused_at_the_edges():
         five.add(0, 2, 1, packet, generator=generator)
     for length in (0, 1, 2, 3, 511, 512, 513, 600):
         five.add(0, 1, 1, filled(length, length), seed=length)
+    for value in (31, 32, 33, 2**16, 2**32, 2**32 + 1, 2**63, 2**64 - 1):
+        for values in ((value, 0), (0, value), (value, value)):
+            five.add(0, 2, 1, packet, values=values)
     for limit in (0, 1, 2, 3, 4, 5, 256 + 1, 65536 + 2, 2**32 + 1, 2**63 + 1, 2**64 - 1):
         five.add(0, 2, limit, packet)
     for room in (0, 1, 2, 3, 4, 5, 256 + 3, 1024):
@@ -296,6 +318,7 @@ ranges()
 by_chance()
 fours()
 long_packets()
+with_values()
 refused_in_order()
 refused_at_the_edges()
 

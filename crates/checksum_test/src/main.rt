@@ -104,9 +104,9 @@ fn show_places(generator: u64) {
 // Stamped and then sealed: the remainder, and the sum of the range.
 fn show_both(generator: u64, check: Check, field: usize, packet: &mut [u8]) {
     show_answer(checksum::stamp(generator, check, field, packet));
-    packet::seal(generator, packet);
+    packet::seal(generator, 0, 0, packet);
     testkit::print(b" ");
-    match packet::remainder(generator, packet) {
+    match packet::remainder(generator, 0, 0, packet) {
         RemainderAnswer::Remainder(r) => {
             io::print_hex(STDOUT_FILENO, r, 1);
         }

@@ -1,47 +1,61 @@
-// Reads packets and generators from standard input and prints what remainder and seal answer.
+// Reads packets and what their CRCs are taken by from standard input and prints what remainder and seal answer.
 //
-// The input: the number of cases, then for each the generator's high and low 32 bits, the packet's
-// length in bytes, and its bytes as testkit::read_packet takes them.
+// The input: the number of cases, then for each the high and low 32 bits of the generator, of the initial
+// and of the final value, the packet's length in bytes, and its bytes as testkit::read_packet takes them.
 use libc::STDIN_FILENO;
 use packet::RemainderAnswer;
 use packet::SealAnswer;
 
-fn print_remainder(generator: u64, packet: &[u8], separator: u8) {
-    match packet::remainder(generator, packet) {
+// The numbers that a CRC is taken by.
+struct Setting {
+    generator: u64,
+    init: u64,
+    xorout: u64,
+}
+
+fn print_remainder(set: Setting, packet: &[u8], separator: u8) {
+    match packet::remainder(set.generator, set.init, set.xorout, packet) {
         RemainderAnswer::Remainder(r) => testkit::print_number(r, separator),
         RemainderAnswer::Refused(r) => testkit::print_refused(r, separator),
     }
 }
 
-fn print_seal(generator: u64, packet: &mut [u8]) {
-    match packet::seal(generator, packet) {
+fn print_seal(set: Setting, packet: &mut [u8]) {
+    match packet::seal(set.generator, set.init, set.xorout, packet) {
         SealAnswer::Sealed => testkit::print(b"sealed "),
         SealAnswer::Refused(r) => testkit::print_refused(r, b' '),
     }
 }
 
 // A line for a packet: its remainder, the answer of seal, the bytes' hash and the remainder after it.
-fn ask(generator: u64, packet: &mut [u8]) {
-    print_remainder(generator, packet, b' ');
-    print_seal(generator, packet);
+fn ask(set: Setting, packet: &mut [u8]) {
+    print_remainder(set, packet, b' ');
+    print_seal(set, packet);
     testkit::print_number(testkit::hash(packet), b' ');
-    print_remainder(generator, packet, b'\n');
+    print_remainder(set, packet, b'\n');
 }
 
 // One case, its packet in a lent slice.
-fn answer(text: &[u8], at: usize, generator: u64, packet: &mut [u8]) -> usize {
+fn answer(text: &[u8], at: usize, set: Setting, packet: &mut [u8]) -> usize {
     let next = testkit::read_packet(text, at, packet);
-    ask(generator, packet);
+    ask(set, packet);
     next
 }
 
 // One case from `at` on; the answer is the place behind it.
 fn case(text: &[u8], at: usize) -> usize {
     let generator = testkit::wide(text, at);
-    let len = testkit::number(text, generator.next);
+    let init = testkit::wide(text, generator.next);
+    let xorout = testkit::wide(text, init.next);
+    let len = testkit::number(text, xorout.next);
+    let set = Setting {
+        generator: generator.value,
+        init: init.value,
+        xorout: xorout.value,
+    };
     let mut space = [0u8; 1024];
     let n = io::count(len.value as isize, &space);
-    answer(text, len.next, generator.value, &mut space[..n])
+    answer(text, len.next, set, &mut space[..n])
 }
 
 fn cases(text: &[u8]) {
@@ -55,7 +69,7 @@ fn cases(text: &[u8]) {
 }
 
 fn main() {
-    let mut text = io::large_buffer();
+    let mut text = [0u8; 131072];
     let n = io::read_full(STDIN_FILENO, &mut text);
     cases(&text[..n]);
 }

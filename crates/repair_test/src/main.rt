@@ -1,10 +1,10 @@
 // Reads packets and tables from standard input, and prints the verdict on each packet, its output and what is handed back.
 //
 // The input: the number of groups. A group: the generator and the size of the tables to build, a change (0 steps, 1 firsts;
-// the place; what is XORed in), how many entries of each are lent, and the number of its cases. A case: generator, range and
-// limit of the calls, the packet's length and its bytes as testkit::read_packet takes them, the room for the output, a first
-// position, and how many from there on are flipped in turn, each alone, after a call with none. Generators, ranges and limits
-// are given by their high and low 32 bits.
+// the place; what is XORed in), how many entries of each are lent, and the number of its cases. A case: generator, initial
+// and final value, range and limit of the calls, the packet's length and its bytes as testkit::read_packet takes them, the room for the output, a first
+// position, and how many from there on are flipped in turn, each alone, after a call with none. All numbers of a call are given
+// by their high and low 32 bits.
 use checksum::Check;
 use libc::STDIN_FILENO;
 use packet::RemainderAnswer;
@@ -16,6 +16,8 @@ use repair::Verdict;
 // What every call of a case is given.
 struct Setting {
     generator: u64,
+    init: u64,
+    xorout: u64,
     check: Check,
     limit: usize,
 }
@@ -40,8 +42,8 @@ fn flip_each(packet: &mut [u8], pos: &[u16]) {
     }
 }
 
-fn print_remainder(generator: u64, packet: &[u8]) {
-    match packet::remainder(generator, packet) {
+fn print_remainder(set: Setting, packet: &[u8]) {
+    match packet::remainder(set.generator, set.init, set.xorout, packet) {
         RemainderAnswer::Remainder(r) => testkit::print_number(r, b' '),
         RemainderAnswer::Refused(r) => testkit::print_refused(r, b' '),
     }
@@ -62,7 +64,7 @@ fn print_checks(set: Setting, p: Pattern, packet: &mut [u8]) {
     let held = patterns::spread(p);
     let n = testkit::least(patterns::count_of(p), MOST_POSITIONS);
     flip_each(packet, &held[..n]);
-    print_remainder(set.generator, packet);
+    print_remainder(set, packet);
     print_sum(set.check, packet);
     flip_each(packet, &held[..n]);
 }
@@ -101,6 +103,8 @@ fn ask(set: Setting, steps: &[u16], firsts: &[u16], packet: &mut [u8], out: &mut
     testkit::fill(out, 1);
     let answer = repair::repair(
         set.generator,
+        set.init,
+        set.xorout,
         set.check,
         set.limit,
         steps,
@@ -173,13 +177,17 @@ fn calls(
 // One case from `at` on; the answer is the place behind it.
 fn case(text: &[u8], at: usize, steps: &[u16], firsts: &[u16]) -> usize {
     let generator = testkit::wide(text, at);
-    let from = testkit::wide(text, generator.next);
+    let init = testkit::wide(text, generator.next);
+    let xorout = testkit::wide(text, init.next);
+    let from = testkit::wide(text, xorout.next);
     let to = testkit::wide(text, from.next);
     let limit = testkit::wide(text, to.next);
     let len = testkit::number(text, limit.next);
     let check = checksum::check_of(from.value as usize, to.value as usize);
     let set = Setting {
         generator: generator.value,
+        init: init.value,
+        xorout: xorout.value,
         check,
         limit: limit.value as usize,
     };
