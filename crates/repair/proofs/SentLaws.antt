@@ -4,7 +4,7 @@
 -- Where the received packet itself passes both checks the verdict is intact, whatever was sent: that is neither none nor
 -- a repair, and the output then stays as it was.
 use mathlib.Core.Path.{_≡_, sym, ap, _∙_}
-use mathlib.Core.Bool.{true, false, true≢false}
+use mathlib.Core.Bool.{Bool, true, false, _&&_, true≢false}
 use mathlib.Core.List.{List}
 use Prim.Native.Nat.{ℕ, _≤_}
 use borrow.Author.Tests.{eqb-true}
@@ -19,6 +19,7 @@ use Rattle.packet.specs.Packet.{Bytes, bits, remainder, flips, difference}
 use Rattle.packet.specs.declared.Crc.{Crc}
 use Rattle.packet.proofs.FlipLaws.{flips-length}
 use Rattle.packet.proofs.DifferenceLaws.{difference-ascending, flips-difference, flips-twice}
+use Rattle.checksum.specs.Checksum.{passes}
 use Rattle.checksum.specs.declared.Check.{Check}
 use Rattle.patterns.specs.Listing.{syndrome}
 use Rattle.patterns.proofs.ListingLaws.{listed-iff}
@@ -31,7 +32,8 @@ module _ (c : Crc) (k : Check) (limit : ℕ) (s : List ℕ) (fit : Fit (c .gener
   passes-remainder : (t : List ℕ) → passesBoth c k t ≡ true → remainder c t ≡ 0
   unfolding passesBoth
   passes-remainder t h =
-      by-test (eqb (remainder c t) 0) (λ q. eqb-true _ _ q) (λ q. absurd (true≢false (sym (rw q at h))))
+      by-test (eqb (remainder c t) 0) (λ q. eqb-true _ _ q)
+      (λ q. absurd (true≢false (sym h ∙ ap (λ (b : Bool). b && passes k t) q)))
 
   -- a set of few enough positions that makes a passing packet of the received one is listed
   set-leads : (t ps : List ℕ) → Ascending (bits s) 0 ps → length ps ≤ limit → flips s ps ≡ t → passesBoth c k t ≡ true → Leads c k limit s ps

@@ -1,7 +1,7 @@
 -- The verdict in the words of docs/RULES.md. For a listed pattern the flipped packet's remainder is 0, so that a passing range
 -- is as much as passing both checks; and since the list ascends, one member is one set and several are several sets.
 use mathlib.Core.Path.{_≡_, refl, sym, ap, _∙_}
-use mathlib.Core.Bool.{true, false, true≢false}
+use mathlib.Core.Bool.{Bool, true, false, _&&_, true≢false}
 use mathlib.Core.Logic.{_↔_}
 use mathlib.Core.List.{List, [], _∷_}
 use Prim.Native.Nat.{ℕ, _≤_}
@@ -154,7 +154,7 @@ module _ (c : Crc) (k : Check) (limit : ℕ) (s : List ℕ) (fit : Fit (c .gener
   -- and passing the range is then passing both
   pub listed-passes : (ps : List ℕ) → In ps (packetList c limit s) → passesBoth c k (flips s ps) ≡ passes k (flips s ps)
   unfolding passesBoth
-  listed-passes ps h = simp (eq-eqb _ _ (listed-remainder ps h))
+  listed-passes ps h = ap (λ (b : Bool). b && passes k (flips s ps)) (eq-eqb _ _ (listed-remainder ps h))
 
   -- so the candidates are the listed sets that lead to a passing packet
   pub candidates-leading : candidates c k limit s ≡ leading c k limit s
