@@ -21,10 +21,15 @@
  *              any number of bits.
  *   position   Bits are counted from the packet's end: 0 is the lowest bit of
  *              its last byte, and L - 1 the highest bit of its first.
- *   remainder  What is left when the packet, read as a binary polynomial with
- *              the bit at position p as the coefficient of x^p, is divided by
- *              the generator. Also called the syndrome. A packet passes the
- *              CRC where nothing is left. The CRC is its last n bits.
+ *   initial    Two values below 2^n that are added (XOR) to the packet before
+ *   final      it is divided: the initial value to its first n bits, the final
+ *              value to its last n, with the highest bit first. Where L < 2n
+ *              they meet in some bits, and both are added there.
+ *   remainder  What is left when the packet with these values added, read as a
+ *              binary polynomial with the bit at position p as the coefficient
+ *              of x^p, is divided by the generator. Also called the syndrome. A
+ *              packet passes the CRC where nothing is left. The CRC is its last
+ *              n bits.
  *   pattern    A set of at most 4 positions: bits that may have flipped. Its
  *              syndrome is what is left of the sum of their powers of x.
  *   limit      N, the most positions that a listed pattern may have: 1 to 4.
@@ -43,8 +48,8 @@
  * Answers
  *
  * Every call but rangqoda_sum and rangqoda_publish returns 0 when it is
- * accepted, and otherwise the number of the lowest condition below that
- * applies, of those that are named for the call. A call that is refused
+ * accepted, and otherwise the number of the first condition that applies, of
+ * those that are named for the call, in that order. A call that is refused
  * changes no memory. Nothing has to be checked beforehand, as long as each
  * pointer is good for the number of elements passed with it: whatever the
  * numbers and lengths are, the call judges them, and it ends.
@@ -62,6 +67,7 @@
  *    9  range not accepted
  *   10  field not whole in the range, or not an even number of bytes from its
  *       start
+ *   11  initial or final value 2^n or more
  *
  *
  * Memory
@@ -78,15 +84,23 @@
  *
  * Which CRC this is
  *
- * The highest bit comes first, nothing is reflected, the register starts at 0,
- * and nothing is added to it at the end (initial and final values 0). With
- * RANGQODA_CCITT that is CRC-16/XMODEM of the catalogues (check value 31C3h, also called CRC-16/ACORN): the remainder of
- * a message and two zero bytes is its CRC, and that of a message and its CRC
- * is 0. Others that go by "CCITT" have the same generator and are not it:
- * CRC-16/IBM-3740 ("CCITT-FALSE") starts at FFFFh, CRC-16/KERMIT
- * ("CCITT-TRUE") and CRC-16/IBM-SDLC (X.25) are reflected. A packet that was
- * sealed by one of these has some other remainder here, and would be taken
- * for damaged: these calls are not for it.
+ * The highest bit comes first, and nothing is reflected. The register starts at
+ * the initial value, and the final value is added to it at the end ("init" and
+ * "xorout" of the catalogues): the remainder of a message and n zero bits is
+ * its CRC, and that of a message and its CRC is 0. With both values 0 every
+ * call answers as it did before it took them.
+ *
+ * The CRCs of the catalogues that are so have names below. Such a name stands
+ * for three arguments, generator, initial and final:
+ *
+ *   rangqoda_seal(RANGQODA_CRC_16_IBM_3740, packet, packet_len)
+ *
+ * Of those that go by "CCITT" and have the generator RANGQODA_CCITT,
+ * CRC-16/XMODEM, CRC-16/IBM-3740 ("CCITT-FALSE"), CRC-16/GENIBUS and
+ * CRC-16/SPI-FUJITSU are among them; CRC-16/KERMIT ("CCITT-TRUE") and
+ * CRC-16/IBM-SDLC (X.25) are reflected, and these calls are not for them. A
+ * packet that was sealed by another CRC than the one passed has some other
+ * remainder, and would be taken for damaged.
  *
  *
  * What a repair does not tell
@@ -171,7 +185,60 @@ extern "C" {
 
 /* Generators with names. */
 #define RANGQODA_FIVE 53u         /* x^5 + x^4 + x^2 + 1 */
-#define RANGQODA_CCITT 0x11021u   /* x^16 + x^12 + x^5 + 1: CRC-16/XMODEM */
+#define RANGQODA_CCITT 0x11021u   /* x^16 + x^12 + x^5 + 1 */
+
+/* CRCs by the catalogues' names: generator, initial and final value. */
+#define RANGQODA_CRC_3_GSM             0xBu, 0x0u, 0x7u
+#define RANGQODA_CRC_4_INTERLAKEN      0x13u, 0xFu, 0xFu
+#define RANGQODA_CRC_5_EPC_C1G2        0x29u, 0x09u, 0x00u
+#define RANGQODA_CRC_6_CDMA2000_A      0x67u, 0x3Fu, 0x00u
+#define RANGQODA_CRC_6_CDMA2000_B      0x47u, 0x3Fu, 0x00u
+#define RANGQODA_CRC_6_GSM             0x6Fu, 0x00u, 0x3Fu
+#define RANGQODA_CRC_7_MMC             0x89u, 0x00u, 0x00u
+#define RANGQODA_CRC_7_UMTS            0xC5u, 0x00u, 0x00u
+#define RANGQODA_CRC_8_AUTOSAR         0x12Fu, 0xFFu, 0xFFu
+#define RANGQODA_CRC_8_CDMA2000        0x19Bu, 0xFFu, 0x00u
+#define RANGQODA_CRC_8_DVB_S2          0x1D5u, 0x00u, 0x00u
+#define RANGQODA_CRC_8_GSM_A           0x11Du, 0x00u, 0x00u
+#define RANGQODA_CRC_8_GSM_B           0x149u, 0x00u, 0xFFu
+#define RANGQODA_CRC_8_I_432_1         0x107u, 0x00u, 0x55u
+#define RANGQODA_CRC_8_I_CODE          0x11Du, 0xFDu, 0x00u
+#define RANGQODA_CRC_8_LTE             0x19Bu, 0x00u, 0x00u
+#define RANGQODA_CRC_8_MIFARE_MAD      0x11Du, 0xC7u, 0x00u
+#define RANGQODA_CRC_8_NRSC_5          0x131u, 0xFFu, 0x00u
+#define RANGQODA_CRC_8_OPENSAFETY      0x12Fu, 0x00u, 0x00u
+#define RANGQODA_CRC_8_SAE_J1850       0x11Du, 0xFFu, 0xFFu
+#define RANGQODA_CRC_8_SMBUS           0x107u, 0x00u, 0x00u
+#define RANGQODA_CRC_10_ATM            0x633u, 0x000u, 0x000u
+#define RANGQODA_CRC_10_CDMA2000       0x7D9u, 0x3FFu, 0x000u
+#define RANGQODA_CRC_10_GSM            0x575u, 0x000u, 0x3FFu
+#define RANGQODA_CRC_11_FLEXRAY        0xB85u, 0x01Au, 0x000u
+#define RANGQODA_CRC_11_UMTS           0xB07u, 0x000u, 0x000u
+#define RANGQODA_CRC_12_CDMA2000       0x1F13u, 0xFFFu, 0x000u
+#define RANGQODA_CRC_12_DECT           0x180Fu, 0x000u, 0x000u
+#define RANGQODA_CRC_12_GSM            0x1D31u, 0x000u, 0xFFFu
+#define RANGQODA_CRC_13_BBC            0x3CF5u, 0x0000u, 0x0000u
+#define RANGQODA_CRC_14_GSM            0x602Du, 0x0000u, 0x3FFFu
+#define RANGQODA_CRC_15_CAN            0xC599u, 0x0000u, 0x0000u
+#define RANGQODA_CRC_15_MPT1327        0xE815u, 0x0000u, 0x0001u
+#define RANGQODA_CRC_16_CDMA2000       0x1C867u, 0xFFFFu, 0x0000u
+#define RANGQODA_CRC_16_CMS            0x18005u, 0xFFFFu, 0x0000u
+#define RANGQODA_CRC_16_DDS_110        0x18005u, 0x800Du, 0x0000u
+#define RANGQODA_CRC_16_DECT_R         0x10589u, 0x0000u, 0x0001u
+#define RANGQODA_CRC_16_DECT_X         0x10589u, 0x0000u, 0x0000u
+#define RANGQODA_CRC_16_EN_13757       0x13D65u, 0x0000u, 0xFFFFu
+#define RANGQODA_CRC_16_GENIBUS        0x11021u, 0xFFFFu, 0xFFFFu
+#define RANGQODA_CRC_16_GSM            0x11021u, 0x0000u, 0xFFFFu
+#define RANGQODA_CRC_16_IBM_3740       0x11021u, 0xFFFFu, 0x0000u
+#define RANGQODA_CRC_16_LJ1200         0x16F63u, 0x0000u, 0x0000u
+#define RANGQODA_CRC_16_OPENSAFETY_A   0x15935u, 0x0000u, 0x0000u
+#define RANGQODA_CRC_16_OPENSAFETY_B   0x1755Bu, 0x0000u, 0x0000u
+#define RANGQODA_CRC_16_PROFIBUS       0x11DCFu, 0xFFFFu, 0xFFFFu
+#define RANGQODA_CRC_16_SPI_FUJITSU    0x11021u, 0x1D0Fu, 0x0000u
+#define RANGQODA_CRC_16_T10_DIF        0x18BB7u, 0x0000u, 0x0000u
+#define RANGQODA_CRC_16_TELEDISK       0x1A097u, 0x0000u, 0x0000u
+#define RANGQODA_CRC_16_UMTS           0x18005u, 0x0000u, 0x0000u
+#define RANGQODA_CRC_16_XMODEM         0x11021u, 0x0000u, 0x0000u
 
 /* The numbers of the conditions above. */
 #define RANGQODA_ACCEPTED 0u
@@ -185,6 +252,7 @@ extern "C" {
 #define RANGQODA_REFUSED_OUTPUT 8u
 #define RANGQODA_REFUSED_RANGE 9u
 #define RANGQODA_REFUSED_FIELD 10u
+#define RANGQODA_REFUSED_VALUES 11u
 
 /* The first-position table's entry where no power of x leaves the remainder. */
 #define RANGQODA_NO_POSITION 65535u
@@ -212,19 +280,19 @@ extern "C" {
 /*
  * The remainder of a packet.
  *
- * Refused by 1, 2. Writes *remainder, below 2^n.
+ * Refused by 1, 2, 11. Writes *remainder, below 2^n.
  */
-uint32_t rangqoda_remainder(uint64_t generator,
+uint32_t rangqoda_remainder(uint64_t generator, uint64_t initial, uint64_t final,
                             const uint8_t *packet, size_t packet_len,
                             uint64_t *remainder);
 
 /*
  * Seals a packet: sets its last n bits so that its remainder is 0.
  *
- * Refused by 1, 2. Changes no other bit of the packet, and none at all where
+ * Refused by 1, 2, 11. Changes no other bit of the packet, and none at all where
  * the remainder is 0 already.
  */
-uint32_t rangqoda_seal(uint64_t generator,
+uint32_t rangqoda_seal(uint64_t generator, uint64_t initial, uint64_t final,
                        uint8_t *packet, size_t packet_len);
 
 /*
@@ -314,11 +382,11 @@ uint32_t rangqoda_page(uint64_t generator, size_t length, size_t limit,
  * The tables are those of rangqoda_tables; every entry is verified in each
  * call. output_len is packet_len, verdict_len is RANGQODA_VERDICT_BYTES.
  *
- * Refused by 1, 2, 3, 5, 6, 8, 9. Otherwise writes all bytes of verdict.
+ * Refused by 1, 2, 11, 3, 5, 6, 8, 9. Otherwise writes all bytes of verdict.
  * output changes for RANGQODA_REPAIRED only.
  */
-uint32_t rangqoda_repair(uint64_t generator, size_t start, size_t end,
-                         size_t limit,
+uint32_t rangqoda_repair(uint64_t generator, uint64_t initial, uint64_t final,
+                         size_t start, size_t end, size_t limit,
                          const uint16_t *step, size_t step_len,
                          const uint16_t *first, size_t first_len,
                          const uint8_t *packet, size_t packet_len,

@@ -35,7 +35,7 @@ int main(int argc, char **argv)
 
     /* These numbers fit, so this is not refused; and an unfit length is refused below. */
     rangqoda_tables(RANGQODA_CCITT, step, ENTRIES, first, ENTRIES, &period);
-    uint32_t refused = rangqoda_repair(RANGQODA_CCITT, 0, len - 2, LIMIT, step, ENTRIES, first, ENTRIES,
+    uint32_t refused = rangqoda_repair(RANGQODA_CRC_16_XMODEM, 0, len - 2, LIMIT, step, ENTRIES, first, ENTRIES,
                                        packet, len, copy, len, verdict, sizeof verdict);
     if (refused) {
         fprintf(stderr, "refused %u\n", (unsigned)refused);

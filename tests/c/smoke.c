@@ -31,21 +31,147 @@ static void remainder_and_seal(void)
     uint8_t packet[11] = { '1', '2', '3', '4', '5', '6', '7', '8', '9', 0, 0 };
     uint64_t left = 77;
 
-    EXPECT(rangqoda_remainder(RANGQODA_CCITT, packet, sizeof packet, &left) == RANGQODA_ACCEPTED);
+    EXPECT(rangqoda_remainder(RANGQODA_CRC_16_XMODEM, packet, sizeof packet, &left) == RANGQODA_ACCEPTED);
     EXPECT(left == 0x31C3);
-    EXPECT(rangqoda_seal(RANGQODA_CCITT, packet, sizeof packet) == RANGQODA_ACCEPTED);
+    EXPECT(rangqoda_seal(RANGQODA_CRC_16_XMODEM, packet, sizeof packet) == RANGQODA_ACCEPTED);
     EXPECT(packet[8] == '9' && packet[9] == 0x31 && packet[10] == 0xC3);
-    EXPECT(rangqoda_remainder(RANGQODA_CCITT, packet, sizeof packet, &left) == RANGQODA_ACCEPTED);
+    EXPECT(rangqoda_remainder(RANGQODA_CRC_16_XMODEM, packet, sizeof packet, &left) == RANGQODA_ACCEPTED);
     EXPECT(left == 0);
 
     left = 77;
-    EXPECT(rangqoda_remainder(8, packet, sizeof packet, &left) == RANGQODA_REFUSED_GENERATOR);
-    EXPECT(rangqoda_remainder(RANGQODA_CCITT, packet, 2, &left) == RANGQODA_REFUSED_LENGTH);
+    EXPECT(rangqoda_remainder(8, 0, 0, packet, sizeof packet, &left) == RANGQODA_REFUSED_GENERATOR);
+    EXPECT(rangqoda_remainder(RANGQODA_CRC_16_XMODEM, packet, 2, &left) == RANGQODA_REFUSED_LENGTH);
     /* an empty slice: any pointer that is not null */
-    EXPECT(rangqoda_remainder(RANGQODA_CCITT, packet, 0, &left) == RANGQODA_REFUSED_LENGTH);
+    EXPECT(rangqoda_remainder(RANGQODA_CRC_16_XMODEM, packet, 0, &left) == RANGQODA_REFUSED_LENGTH);
     EXPECT(left == 77);
-    EXPECT(rangqoda_seal(131073, packet, sizeof packet) == RANGQODA_REFUSED_GENERATOR);
+    EXPECT(rangqoda_seal(131073, 0, 0, packet, sizeof packet) == RANGQODA_REFUSED_GENERATOR);
     EXPECT(packet[9] == 0x31 && packet[10] == 0xC3);
+}
+
+/* The published check values: what the names stand for, with the nine digits and n zero bits as the packet. Where n is not
+   a multiple of 8, zero bits stand in front, and the initial value stands too high by as many. */
+static void named(void)
+{
+    static const struct {
+        uint64_t generator, initial, final, check;
+    } crcs[] = {
+        { RANGQODA_CRC_3_GSM,             0x4 },
+        { RANGQODA_CRC_4_INTERLAKEN,      0xB },
+        { RANGQODA_CRC_5_EPC_C1G2,        0x00 },
+        { RANGQODA_CRC_6_CDMA2000_A,      0x0D },
+        { RANGQODA_CRC_6_CDMA2000_B,      0x3B },
+        { RANGQODA_CRC_6_GSM,             0x13 },
+        { RANGQODA_CRC_7_MMC,             0x75 },
+        { RANGQODA_CRC_7_UMTS,            0x61 },
+        { RANGQODA_CRC_8_AUTOSAR,         0xDF },
+        { RANGQODA_CRC_8_CDMA2000,        0xDA },
+        { RANGQODA_CRC_8_DVB_S2,          0xBC },
+        { RANGQODA_CRC_8_GSM_A,           0x37 },
+        { RANGQODA_CRC_8_GSM_B,           0x94 },
+        { RANGQODA_CRC_8_I_432_1,         0xA1 },
+        { RANGQODA_CRC_8_I_CODE,          0x7E },
+        { RANGQODA_CRC_8_LTE,             0xEA },
+        { RANGQODA_CRC_8_MIFARE_MAD,      0x99 },
+        { RANGQODA_CRC_8_NRSC_5,          0xF7 },
+        { RANGQODA_CRC_8_OPENSAFETY,      0x3E },
+        { RANGQODA_CRC_8_SAE_J1850,       0x4B },
+        { RANGQODA_CRC_8_SMBUS,           0xF4 },
+        { RANGQODA_CRC_10_ATM,            0x199 },
+        { RANGQODA_CRC_10_CDMA2000,       0x233 },
+        { RANGQODA_CRC_10_GSM,            0x12A },
+        { RANGQODA_CRC_11_FLEXRAY,        0x5A3 },
+        { RANGQODA_CRC_11_UMTS,           0x061 },
+        { RANGQODA_CRC_12_CDMA2000,       0xD4D },
+        { RANGQODA_CRC_12_DECT,           0xF5B },
+        { RANGQODA_CRC_12_GSM,            0xB34 },
+        { RANGQODA_CRC_13_BBC,            0x04FA },
+        { RANGQODA_CRC_14_GSM,            0x30AE },
+        { RANGQODA_CRC_15_CAN,            0x059E },
+        { RANGQODA_CRC_15_MPT1327,        0x2566 },
+        { RANGQODA_CRC_16_CDMA2000,       0x4C06 },
+        { RANGQODA_CRC_16_CMS,            0xAEE7 },
+        { RANGQODA_CRC_16_DDS_110,        0x9ECF },
+        { RANGQODA_CRC_16_DECT_R,         0x007E },
+        { RANGQODA_CRC_16_DECT_X,         0x007F },
+        { RANGQODA_CRC_16_EN_13757,       0xC2B7 },
+        { RANGQODA_CRC_16_GENIBUS,        0xD64E },
+        { RANGQODA_CRC_16_GSM,            0xCE3C },
+        { RANGQODA_CRC_16_IBM_3740,       0x29B1 },
+        { RANGQODA_CRC_16_LJ1200,         0xBDF4 },
+        { RANGQODA_CRC_16_OPENSAFETY_A,   0x5D38 },
+        { RANGQODA_CRC_16_OPENSAFETY_B,   0x20FE },
+        { RANGQODA_CRC_16_PROFIBUS,       0xA819 },
+        { RANGQODA_CRC_16_SPI_FUJITSU,    0xE5CC },
+        { RANGQODA_CRC_16_T10_DIF,        0xD0DB },
+        { RANGQODA_CRC_16_TELEDISK,       0x0FB3 },
+        { RANGQODA_CRC_16_UMTS,           0xFEE8 },
+        { RANGQODA_CRC_16_XMODEM,         0x31C3 },
+    };
+    static const char digits[] = "123456789";
+
+    for (size_t i = 0; i < sizeof crcs / sizeof *crcs; i++) {
+        unsigned n = 3, behind, before;
+        uint64_t start = crcs[i].initial, left = 77;
+        uint8_t packet[11] = { 0 }, sealed[11];
+        size_t len;
+
+        while (crcs[i].generator >> (n + 1))
+            n++;
+        len = 9 + (n + 7) / 8;
+        behind = n % 8;
+        before = (8 - behind) % 8;
+        for (size_t k = 0; k < 9; k++) {
+            unsigned wide = behind ? (unsigned)(uint8_t)digits[k] << behind : (unsigned)(uint8_t)digits[k] << 8;
+            packet[k] = (uint8_t)(packet[k] | wide >> 8);
+            packet[k + 1] = (uint8_t)wide;
+        }
+        for (unsigned k = 0; k < before; k++)
+            start = (start & 1 ? start ^ crcs[i].generator : start) >> 1;
+        EXPECT(rangqoda_remainder(crcs[i].generator, start, crcs[i].final, packet, len, &left) == RANGQODA_ACCEPTED);
+        EXPECT(left == crcs[i].check);
+        memcpy(sealed, packet, sizeof packet);
+        EXPECT(rangqoda_seal(crcs[i].generator, start, crcs[i].final, sealed, len) == RANGQODA_ACCEPTED);
+        EXPECT(sealed[len - 1] == (uint8_t)(packet[len - 1] ^ crcs[i].check));
+        EXPECT(sealed[len - 2] == (uint8_t)(packet[len - 2] ^ crcs[i].check >> 8));
+        EXPECT(memcmp(sealed, packet, len - 2) == 0);
+        EXPECT(rangqoda_remainder(crcs[i].generator, start, crcs[i].final, sealed, len, &left) == RANGQODA_ACCEPTED);
+        EXPECT(left == 0);
+    }
+}
+
+static void values(void)
+{
+    uint8_t packet[3] = { 0, 0, 0 }, verdict[RANGQODA_VERDICT_BYTES] = { 77 }, output[3] = { 1, 2, 3 };
+    uint64_t left = 77, period;
+
+    EXPECT(rangqoda_tables(RANGQODA_FIVE, step, 32, first, 32, &period) == RANGQODA_ACCEPTED);
+    EXPECT(rangqoda_remainder(RANGQODA_FIVE, 32, 0, packet, 1, &left) == RANGQODA_REFUSED_VALUES);
+    EXPECT(rangqoda_remainder(RANGQODA_FIVE, 0, UINT64_MAX, packet, 1, &left) == RANGQODA_REFUSED_VALUES);
+    EXPECT(rangqoda_remainder(RANGQODA_FIVE, 32, 0, packet, 0, &left) == RANGQODA_REFUSED_LENGTH);
+    EXPECT(rangqoda_remainder(52, 32, 0, packet, 1, &left) == RANGQODA_REFUSED_GENERATOR);
+    EXPECT(rangqoda_seal(RANGQODA_FIVE, 0, 32, packet, 3) == RANGQODA_REFUSED_VALUES);
+    EXPECT(left == 77 && packet[2] == 0);
+    /* 11 before 3 */
+    EXPECT(rangqoda_repair(RANGQODA_FIVE, 0, 32, 0, 2, 5, step, 32, first, 32, packet, 3, output, 3, verdict,
+                           sizeof verdict) == RANGQODA_REFUSED_VALUES);
+    EXPECT(verdict[0] == 77 && output[0] == 1);
+
+    /* both values over the same bits */
+    EXPECT(rangqoda_remainder(RANGQODA_FIVE, 31, 0, packet, 1, &left) == RANGQODA_ACCEPTED && left == 25);
+    EXPECT(rangqoda_remainder(RANGQODA_FIVE, 0, 31, packet, 1, &left) == RANGQODA_ACCEPTED && left == 31);
+    EXPECT(rangqoda_remainder(RANGQODA_FIVE, 31, 31, packet, 1, &left) == RANGQODA_ACCEPTED && left == 6);
+
+    /* sealed by these values it is intact, with a flip it is repaired, and for other values it is not intact */
+    packet[0] = packet[1] = 0xFF;
+    EXPECT(rangqoda_seal(RANGQODA_FIVE, 31, 9, packet, 3) == RANGQODA_ACCEPTED);
+    EXPECT(rangqoda_repair(RANGQODA_FIVE, 31, 9, 0, 2, 1, step, 32, first, 32, packet, 3, output, 3, verdict,
+                           sizeof verdict) == RANGQODA_ACCEPTED && verdict[0] == RANGQODA_INTACT);
+    EXPECT(rangqoda_repair(RANGQODA_FIVE, 0, 0, 0, 2, 1, step, 32, first, 32, packet, 3, output, 3, verdict,
+                           sizeof verdict) == RANGQODA_ACCEPTED && verdict[0] != RANGQODA_INTACT);
+    packet[0] = 0x7F;
+    EXPECT(rangqoda_repair(RANGQODA_FIVE, 31, 9, 0, 2, 1, step, 32, first, 32, packet, 3, output, 3, verdict,
+                           sizeof verdict) == RANGQODA_ACCEPTED && verdict[0] == RANGQODA_REPAIRED);
+    EXPECT(verdict[11] == 23 && output[0] == 0xFF && output[2] == packet[2]);
 }
 
 static void sum_and_stamp(void)
@@ -127,22 +253,22 @@ static void repairs(void)
 
     EXPECT(rangqoda_tables(RANGQODA_FIVE, step, 32, first, 32, &period) == RANGQODA_ACCEPTED);
 
-    EXPECT(rangqoda_repair(RANGQODA_FIVE, 0, 2, 1, step, 32, first, 32, intact, 3, output, 3, verdict,
+    EXPECT(rangqoda_repair(RANGQODA_FIVE, 0, 0, 0, 2, 1, step, 32, first, 32, intact, 3, output, 3, verdict,
                            sizeof verdict) == RANGQODA_ACCEPTED);
     EXPECT(verdict[0] == RANGQODA_INTACT && verdict[8] == 0 && output[0] == 1);
     EXPECT(rangqoda_publish(verdict, sizeof verdict) == RANGQODA_PUBLISH_RECEIVED);
 
-    EXPECT(rangqoda_repair(RANGQODA_FIVE, 0, 2, 1, step, 32, first, 32, twice, 3, output, 3, verdict,
+    EXPECT(rangqoda_repair(RANGQODA_FIVE, 0, 0, 0, 2, 1, step, 32, first, 32, twice, 3, output, 3, verdict,
                            sizeof verdict) == RANGQODA_ACCEPTED);
     EXPECT(verdict[0] == RANGQODA_NONE && verdict[8] == 0 && output[0] == 1);
     EXPECT(rangqoda_publish(verdict, sizeof verdict) == RANGQODA_PUBLISH_NOTHING);
 
-    EXPECT(rangqoda_repair(RANGQODA_FIVE, 0, 2, 2, step, 32, first, 32, twice, 3, output, 3, verdict,
+    EXPECT(rangqoda_repair(RANGQODA_FIVE, 0, 0, 0, 2, 2, step, 32, first, 32, twice, 3, output, 3, verdict,
                            sizeof verdict) == RANGQODA_ACCEPTED);
     EXPECT(verdict[0] == RANGQODA_SEVERAL && verdict[1] == 0 && verdict[8] == 2 && verdict[9] == 2 && output[0] == 1);
     EXPECT(rangqoda_publish(verdict, sizeof verdict) == RANGQODA_PUBLISH_NOTHING);
 
-    EXPECT(rangqoda_repair(RANGQODA_FIVE, 0, 2, 1, step, 32, first, 32, once, 3, output, 3, verdict,
+    EXPECT(rangqoda_repair(RANGQODA_FIVE, 0, 0, 0, 2, 1, step, 32, first, 32, once, 3, output, 3, verdict,
                            sizeof verdict) == RANGQODA_ACCEPTED);
     EXPECT(verdict[0] == RANGQODA_REPAIRED && verdict[8] == 1);
     EXPECT(verdict[9] == 1 && verdict[10] == 0 && verdict[11] == 23 && verdict[12] == 0);
@@ -150,11 +276,11 @@ static void repairs(void)
     EXPECT(rangqoda_publish(verdict, sizeof verdict) == RANGQODA_PUBLISH_COPY);
     EXPECT(rangqoda_publish(verdict, sizeof verdict - 1) == RANGQODA_PUBLISH_NOTHING);
 
-    EXPECT(rangqoda_repair(RANGQODA_FIVE, 0, 2, 1, step, 32, first, 32, once, 3, output, 2, verdict,
+    EXPECT(rangqoda_repair(RANGQODA_FIVE, 0, 0, 0, 2, 1, step, 32, first, 32, once, 3, output, 2, verdict,
                            sizeof verdict) == RANGQODA_REFUSED_OUTPUT);
-    EXPECT(rangqoda_repair(RANGQODA_FIVE, 0, 2, 1, step, 32, first, 32, once, 3, output, 3, verdict,
+    EXPECT(rangqoda_repair(RANGQODA_FIVE, 0, 0, 0, 2, 1, step, 32, first, 32, once, 3, output, 3, verdict,
                            sizeof verdict - 1) == RANGQODA_REFUSED_OUTPUT);
-    EXPECT(rangqoda_repair(RANGQODA_FIVE, 0, 3, 1, step, 32, first, 32, once, 3, output, 3, verdict,
+    EXPECT(rangqoda_repair(RANGQODA_FIVE, 0, 0, 0, 3, 1, step, 32, first, 32, once, 3, output, 3, verdict,
                            sizeof verdict) == RANGQODA_REFUSED_RANGE);
     EXPECT(verdict[0] == RANGQODA_REPAIRED && memcmp(output, intact, 3) == 0);
 }
@@ -162,6 +288,8 @@ static void repairs(void)
 int main(void)
 {
     remainder_and_seal();
+    named();
+    values();
     sum_and_stamp();
     tables();
     pages();

@@ -7,7 +7,7 @@
 //! Then packets that were stamped and sealed, with some bits flipped: how many are repaired to what was sent, and how many
 //! to something else.
 
-use rangqoda::{seal, stamp, Refusal, Tables, Verdict, CCITT};
+use rangqoda::{catalogue::CRC_16_XMODEM as CRC, seal, stamp, Refusal, Tables, Verdict, CCITT};
 
 /// How many sets of at most `limit` positions there are among `bits`.
 fn sets_of_at_most(limit: usize, bits: usize) -> f64 {
@@ -55,7 +55,7 @@ fn noise(tables: &Tables, bytes: usize, limit: usize, trials: usize) -> Result<(
     let (mut repaired, mut several) = (0, 0);
     for _ in 0..trials {
         let packet = random_bytes(bytes, &mut state);
-        match tables.repair(0..bytes - 2, limit, &packet, &mut copy)? {
+        match tables.repair(CRC, 0..bytes - 2, limit, &packet, &mut copy)? {
             Verdict::Repaired(_) => repaired += 1,
             Verdict::Several { .. } => several += 1,
             Verdict::Intact | Verdict::None => {}
@@ -73,9 +73,9 @@ fn flips(tables: &Tables, bytes: usize, limit: usize, flips: usize, trials: usiz
     for _ in 0..trials {
         let mut sent = random_bytes(bytes, &mut state);
         stamp(CCITT, 0..bytes - 2, 0, &mut sent)?;
-        seal(CCITT, &mut sent)?;
+        seal(CRC, &mut sent)?;
         let received = damaged(&sent, flips, &mut state);
-        match tables.repair(0..bytes - 2, limit, &received, &mut copy)? {
+        match tables.repair(CRC, 0..bytes - 2, limit, &received, &mut copy)? {
             Verdict::Repaired(_) if copy == sent => rightly += 1,
             Verdict::Repaired(_) | Verdict::Intact => falsely += 1,
             Verdict::Several { .. } => several += 1,

@@ -14,7 +14,9 @@
 //!   term. Accepted: odd ones with n from 3 to 16.
 //! - A packet has L bits, 8 for each byte. They are counted from its end: *position* 0 is the lowest bit of its last byte,
 //!   and L - 1 the highest bit of its first. Accepted: n < L ≤ 4,096. The CRC is the last n bits.
-//! - The *remainder* or *syndrome* is what is left when the packet, as a binary polynomial, is divided by the generator.
+//! - The *remainder* or *syndrome* is what is left when the packet, as a binary polynomial with the *initial value* added at
+//!   its first n bits and the *final value* at its last n, is divided by the generator. Both are below 2^n, with their highest
+//!   bit first; where n < L < 2n they meet in some bits, and both are added there.
 //! - A *pattern* is a set of at most four positions: bits that may have flipped. The *list* for a generator, L, a limit N
 //!   and a syndrome has all patterns below L with that syndrome and at most N positions. Small patterns stand before large
 //!   ones; those of one size go by their smallest positions, the lower first, then by the next smallest, and so on.
@@ -22,11 +24,14 @@
 //!
 //! # Which CRC this is
 //!
-//! The highest bit comes first, nothing is reflected, the register starts at 0, and nothing is added to it at the end
-//! (initial and final values 0). With [`CCITT`] that is CRC-16/XMODEM of the catalogues, and not CRC-16/IBM-3740
-//! ("CCITT-FALSE", starts at FFFFh), CRC-16/KERMIT ("CCITT-TRUE") or CRC-16/IBM-SDLC (X.25), which have the same generator.
-//! A packet that was sealed by one of these has some other remainder here and would be taken for damaged: these calls are
-//! not for it.
+//! A [`Crc`] is a generator with an initial and a final value: the register starts at the one, and the other is added to it at
+//! the end (`init` and `xorout` of the catalogues and of the `crc` crate). The highest bit comes first, and nothing is
+//! reflected. [`catalogue`] has those with names, such as [`catalogue::CRC_16_XMODEM`],
+//! [`catalogue::CRC_16_IBM_3740`] ("CCITT-FALSE") and [`catalogue::CRC_16_GENIBUS`], which share the generator [`CCITT`].
+//! CRC-16/KERMIT ("CCITT-TRUE") and CRC-16/IBM-SDLC (X.25) have it too and are reflected: these calls are not for them. A packet
+//! that was sealed by another CRC than the one named in the call has some other remainder and would be taken for damaged.
+//!
+//! [`Crc::plain`] is a generator with both values 0, for which every call answers as it did when it took a generator alone.
 //!
 //! # What a repair does not tell
 //!
@@ -51,20 +56,20 @@
 //! # Example
 //!
 //! ```
-//! use rangqoda::{hand_back, seal, stamp, Tables, Verdict, CCITT};
+//! use rangqoda::{catalogue::CRC_16_IBM_3740 as CRC, hand_back, seal, stamp, Tables, Verdict};
 //!
 //! // Ten bytes of data, two of checksum at byte 10, two of CRC.
 //! let mut sent = *b"channel 07\0\0\0\0";
-//! stamp(CCITT, 0..12, 10, &mut sent)?;
-//! seal(CCITT, &mut sent)?;
+//! stamp(CRC.generator, 0..12, 10, &mut sent)?;
+//! seal(CRC, &mut sent)?;
 //!
 //! let mut received = sent;
 //! received[3] ^= 0x10;
 //! received[8] ^= 0x01;
 //!
-//! let tables = Tables::new(CCITT)?;
+//! let tables = Tables::new(CRC.generator)?;
 //! let mut copy = [0; 14];
-//! let verdict = tables.repair(0..12, 2, &received, &mut copy)?;
+//! let verdict = tables.repair(CRC, 0..12, 2, &received, &mut copy)?;
 //! assert!(matches!(verdict, Verdict::Repaired(pattern) if pattern.as_slice() == [40, 84]));
 //! assert_eq!(hand_back(&received, &copy, &verdict), sent);
 //! # Ok::<(), rangqoda::Refusal>(())
@@ -72,6 +77,7 @@
 
 #![warn(missing_docs)]
 
+pub mod catalogue;
 #[allow(missing_docs)]
 pub mod ffi;
 
@@ -82,7 +88,7 @@ use std::ops::Range;
 /// The generator x^5 + x^4 + x^2 + 1.
 pub const FIVE: u64 = 53;
 
-/// The generator x^16 + x^12 + x^5 + 1: CRC-16/XMODEM.
+/// The generator x^16 + x^12 + x^5 + 1.
 pub const CCITT: u64 = 0x11021;
 
 /// The entry of a first-position table where no power of x leaves the remainder.
@@ -103,8 +109,33 @@ pub const VERDICT_BYTES: usize = 9 + RECORD_BYTES;
 const MARK_START: u8 = 0xFE;
 const MARK_ENDED: u8 = 0xFF;
 
-/// Why a call was refused. A call tests the conditions that are named for it, lowest first, and gives the first that
-/// applies.
+/// What a CRC is taken by. It refuses nothing: the calls judge its numbers.
+///
+/// ```
+/// use rangqoda::{catalogue::CRC_16_XMODEM, Crc, CCITT};
+///
+/// assert_eq!(CRC_16_XMODEM, Crc { generator: 0x11021, init: 0, xorout: 0 });
+/// assert_eq!(CRC_16_XMODEM, Crc::plain(CCITT));
+/// ```
+#[derive(Clone, Copy, Debug, PartialEq, Eq, Hash)]
+pub struct Crc {
+    /// The generator: 2^i stands for x^i.
+    pub generator: u64,
+    /// The initial value, added at a packet's first n bits. Accepted below 2^n.
+    pub init: u64,
+    /// The final value, added at its last n bits. Accepted below 2^n.
+    pub xorout: u64,
+}
+
+impl Crc {
+    /// The CRC of a generator with initial and final values 0.
+    pub const fn plain(generator: u64) -> Crc {
+        Crc { generator, init: 0, xorout: 0 }
+    }
+}
+
+/// Why a call was refused. A call tests the conditions that are named for it, in the order in which they are named, and
+/// gives the first that applies.
 #[derive(Clone, Copy, Debug, PartialEq, Eq, PartialOrd, Ord, Hash)]
 #[repr(u32)]
 pub enum Refusal {
@@ -128,11 +159,13 @@ pub enum Refusal {
     Range = 9,
     /// 10: the field is not whole in the range, or not an even number of bytes from its start.
     Field = 10,
+    /// 11: the initial or the final value is 2^n or more.
+    Values = 11,
 }
 
 impl Refusal {
     /// Every refusal, lowest number first.
-    pub const ALL: [Refusal; 10] = [
+    pub const ALL: [Refusal; 11] = [
         Refusal::Generator,
         Refusal::Length,
         Refusal::Limit,
@@ -143,9 +176,10 @@ impl Refusal {
         Refusal::Output,
         Refusal::Range,
         Refusal::Field,
+        Refusal::Values,
     ];
 
-    /// The number of the condition, 1 to 10.
+    /// The number of the condition, 1 to 11.
     pub const fn number(self) -> u32 {
         self as u32
     }
@@ -164,6 +198,7 @@ impl fmt::Display for Refusal {
             Refusal::Output => "the output has an unfit length",
             Refusal::Range => "the range is empty or reaches into the CRC",
             Refusal::Field => "the field is outside the range or at an odd distance from its start",
+            Refusal::Values => "the initial or the final value does not fit the degree",
         };
         write!(f, "refused {}: {}", self.number(), what)
     }
@@ -175,7 +210,7 @@ impl Error for Refusal {}
 fn judged(number: u32) -> Result<(), Refusal> {
     match number {
         0 => Ok(()),
-        1..=10 => Err(Refusal::ALL[number as usize - 1]),
+        1..=11 => Err(Refusal::ALL[number as usize - 1]),
         _ => unreachable!("the library answered {number}, which names no condition"),
     }
 }
@@ -346,34 +381,37 @@ impl Verdict {
     }
 }
 
-/// The remainder of a packet. Refused by 1, 2.
+/// The remainder of a packet. Refused by 1, 2, 11.
 ///
 /// ```
-/// use rangqoda::{remainder, Refusal, FIVE};
+/// use rangqoda::{remainder, Crc, Refusal, FIVE};
 ///
-/// assert_eq!(remainder(FIVE, &[0xFF, 0xFF, 0x05]), Ok(0));
-/// assert_eq!(remainder(8, &[0xFF]), Err(Refusal::Generator));
+/// assert_eq!(remainder(Crc::plain(FIVE), &[0xFF, 0xFF, 0x05]), Ok(0));
+/// assert_eq!(remainder(Crc { generator: FIVE, init: 31, xorout: 31 }, &[0x00]), Ok(6));
+/// assert_eq!(remainder(Crc { generator: FIVE, init: 32, xorout: 0 }, &[0x00]), Err(Refusal::Values));
 /// ```
-pub fn remainder(generator: u64, packet: &[u8]) -> Result<u64, Refusal> {
+pub fn remainder(crc: Crc, packet: &[u8]) -> Result<u64, Refusal> {
     let mut remainder = 0;
     // SAFETY: a slice's pointer is good for its length, and the lent parts are borrowed apart from each other.
-    judged(unsafe { ffi::rangqoda_remainder(generator, packet.as_ptr(), packet.len(), &mut remainder) })?;
+    judged(unsafe {
+        ffi::rangqoda_remainder(crc.generator, crc.init, crc.xorout, packet.as_ptr(), packet.len(), &mut remainder)
+    })?;
     Ok(remainder)
 }
 
-/// Seals a packet: gives its CRC, the last n bits, the one value for which the remainder is 0. Refused by 1, 2.
+/// Seals a packet: gives its CRC, the last n bits, the one value for which the remainder is 0. Refused by 1, 2, 11.
 ///
 /// ```
-/// use rangqoda::{remainder, seal, CCITT};
+/// use rangqoda::{catalogue::CRC_16_GENIBUS, remainder, seal};
 ///
 /// let mut packet = *b"screen time\0\0";
-/// seal(CCITT, &mut packet)?;
-/// assert_eq!(remainder(CCITT, &packet), Ok(0));
+/// seal(CRC_16_GENIBUS, &mut packet)?;
+/// assert_eq!(remainder(CRC_16_GENIBUS, &packet), Ok(0));
 /// # Ok::<(), rangqoda::Refusal>(())
 /// ```
-pub fn seal(generator: u64, packet: &mut [u8]) -> Result<(), Refusal> {
+pub fn seal(crc: Crc, packet: &mut [u8]) -> Result<(), Refusal> {
     // SAFETY: as in `remainder`.
-    judged(unsafe { ffi::rangqoda_seal(generator, packet.as_mut_ptr(), packet.len()) })
+    judged(unsafe { ffi::rangqoda_seal(crc.generator, crc.init, crc.xorout, packet.as_mut_ptr(), packet.len()) })
 }
 
 /// The sum of RFC 1071: bytes as 16-bit numbers, high byte first, with a zero behind an odd one, and carries added back in.
@@ -515,20 +553,20 @@ pub fn page(
 }
 
 /// Repairs a packet whose range carries a checksum. `output` is as long as the packet; it changes only for
-/// [`Verdict::Repaired`], when it holds the flipped packet. Refused by 1, 2, 3, 5, 6, 8, 9.
+/// [`Verdict::Repaired`], when it holds the flipped packet. Refused by 1, 2, 11, 3, 5, 6, 8, 9, in this order.
 ///
 /// ```
-/// use rangqoda::{repair, Pattern, Tables, Verdict, FIVE};
+/// use rangqoda::{repair, Crc, Pattern, Tables, Verdict, FIVE};
 ///
 /// let tables = Tables::new(FIVE)?;
 /// let mut output = [0; 3];
-/// let verdict = repair(FIVE, 0..2, 1, tables.as_slices(), &[0x7F, 0xFF, 0x05], &mut output)?;
+/// let verdict = repair(Crc::plain(FIVE), 0..2, 1, tables.as_slices(), &[0x7F, 0xFF, 0x05], &mut output)?;
 /// assert_eq!(verdict, Verdict::Repaired(Pattern::new(&[23]).unwrap()));
 /// assert_eq!(output, [0xFF, 0xFF, 0x05]);
 /// # Ok::<(), rangqoda::Refusal>(())
 /// ```
 pub fn repair(
-    generator: u64,
+    crc: Crc,
     range: Range<usize>,
     limit: usize,
     tables: TableSlices<'_>,
@@ -539,7 +577,9 @@ pub fn repair(
     // SAFETY: as in `remainder`.
     judged(unsafe {
         ffi::rangqoda_repair(
-            generator,
+            crc.generator,
+            crc.init,
+            crc.xorout,
             range.start,
             range.end,
             limit,
@@ -625,15 +665,16 @@ impl Tables {
         page(self.generator, length, limit, syndrome, self.as_slices(), mark, output)
     }
 
-    /// [`repair`] with these tables and their generator.
+    /// [`repair`] with these tables, which are those of the CRC's generator.
     pub fn repair(
         &self,
+        crc: Crc,
         range: Range<usize>,
         limit: usize,
         packet: &[u8],
         output: &mut [u8],
     ) -> Result<Verdict, Refusal> {
-        repair(self.generator, range, limit, self.as_slices(), packet, output)
+        repair(crc, range, limit, self.as_slices(), packet, output)
     }
 
     /// Every pattern of a list, in its order. Refused by 2, 3, 4.

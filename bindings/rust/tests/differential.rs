@@ -5,7 +5,8 @@
 mod common;
 mod reference;
 
-use common::{Built, PageCall, PageLent, Random, RepairCall, RepairLent, HUGE, UNFIT_GENERATORS, UNSET};
+use common::{unfit_values, Built, PageCall, PageLent, Random, RepairCall, RepairLent, HUGE, UNFIT_GENERATORS, UNSET};
+use rangqoda::Crc;
 use reference::{Mark, Tables, Verdict};
 use std::rc::Rc;
 
@@ -92,7 +93,7 @@ fn compare_page(call: &PageCall<'_>, before: &PageLent) -> u32 {
 /// Compares a repair and gives the reference's answer. The pattern of several is only held to be one of those that pass.
 fn compare_repair(call: &RepairCall<'_>, before: &RepairLent) -> reference::Answer<Verdict> {
     let of = reference::RepairOf {
-        generator: call.generator,
+        crc: call.crc,
         start: call.start,
         end: call.end,
         limit: call.limit,
@@ -312,31 +313,110 @@ fn some_generator(random: &mut Random) -> u64 {
     }
 }
 
+/// The same with initial and final values, which now and then are unfit.
+fn some_crc(random: &mut Random) -> Crc {
+    let generator = some_generator(random);
+    let crc = random.values(generator);
+    if generator != 0 && random.once_in(8) {
+        return unfit_values(random, crc);
+    }
+    crc
+}
+
 #[test]
 fn remainder_is_long_division() {
     let mut random = Random::new(1);
-    let mut refused = [0; 3];
+    let mut refused = [0; 12];
     for _ in 0..20_000 {
-        let generator = some_generator(&mut random);
+        let crc = some_crc(&mut random);
         let len = some_bytes(&mut random);
         let packet = random.packet(len);
-        let expected = match reference::remainder(generator, &packet) {
+        let expected = match reference::remainder(crc, &packet) {
             Ok(remainder) => (0, remainder),
             Err(number) => (number, UNSET),
         };
         refused[expected.0 as usize] += 1;
-        assert_eq!(common::remainder(generator, &packet), expected, "{generator} {packet:02X?}");
+        assert_eq!(common::remainder(crc, &packet), expected, "{crc:?} {packet:02X?}");
     }
-    assert!(refused.iter().all(|&times| times > 100), "{refused:?}");
+    for number in [0, 1, 2, 11] {
+        assert!(refused[number] > 100, "{refused:?}");
+    }
 }
 
 #[test]
 fn remainder_of_every_short_packet() {
     for generator in (9..128).step_by(2) {
+        let crc = Crc::plain(generator);
         for packet in 0..=0xFFFFu16 {
             let packet = packet.to_be_bytes();
-            let expected = reference::remainder(generator, &packet).unwrap();
-            assert_eq!(rangqoda::remainder(generator, &packet), Ok(expected), "{generator} {packet:02X?}");
+            let expected = reference::remainder(crc, &packet).unwrap();
+            assert_eq!(rangqoda::remainder(crc, &packet), Ok(expected), "{generator} {packet:02X?}");
+        }
+    }
+}
+
+/// All values, and all packets of one byte, in which both values stand over the same bits for degrees 5 to 7.
+#[test]
+fn every_initial_and_final_value_of_small_degrees() {
+    for generator in [9, 19, 53] {
+        let bound = 1 << reference::degree(generator);
+        for (init, xorout) in (0..bound).flat_map(|init| (0..bound).map(move |xorout| (init, xorout))) {
+            let crc = Crc { generator, init, xorout };
+            for byte in 0..=255 {
+                let expected = reference::remainder(crc, &[byte]).unwrap();
+                assert_eq!(rangqoda::remainder(crc, &[byte]), Ok(expected), "{crc:?} {byte:02X}");
+                let mut sealed = [byte];
+                reference::seal(crc, &mut sealed).unwrap();
+                let mut packet = [byte];
+                assert_eq!(rangqoda::seal(crc, &mut packet), Ok(()));
+                assert_eq!(packet, sealed, "{crc:?} {byte:02X}");
+            }
+        }
+    }
+}
+
+#[test]
+fn values_in_packets_of_less_than_2n_bits() {
+    let mut random = Random::new(20);
+    for _ in 0..20_000 {
+        // of degree 8 and below 5 no packet of whole bytes is so short
+        let degree = random.pick(&[5, 6, 7, 9, 10, 11, 12, 13, 14, 15, 16]);
+        let n = degree as usize;
+        let generator = random.generator(degree);
+        let crc = random.values(generator);
+        let len = random.within(n / 8 + 1, (2 * n - 1) / 8);
+        let packet = random.packet(len);
+        let remainder = reference::remainder(crc, &packet).unwrap();
+        assert_eq!(common::remainder(crc, &packet), (0, remainder), "{crc:?} {packet:02X?}");
+        let mut sealed = packet.clone();
+        reference::seal(crc, &mut sealed).unwrap();
+        assert_eq!(common::seal(crc, &packet), (0, sealed), "{crc:?} {packet:02X?}");
+    }
+}
+
+/// 1 before 2 before 11, in both calls.
+#[test]
+fn remainder_and_seal_refuse_in_their_order() {
+    let mut random = Random::new(21);
+    for (one, two, eleven) in (0..8).map(|set| (set & 1 == 1, set & 2 == 2, set & 4 == 4)) {
+        for _ in 0..200 {
+            let mut crc = random.values(53);
+            if eleven {
+                crc = unfit_values(&mut random, crc);
+            }
+            if one {
+                crc.generator = random.pick(&UNFIT_GENERATORS);
+            }
+            let len = if two { random.pick(&[0, 513, 600]) } else { random.within(1, 512) };
+            let packet = random.packet(len);
+            let number = if one { 1 } else { u32::from(two) * 2 };
+            let number = if number == 0 && eleven { 11 } else { number };
+            assert_eq!(common::remainder(crc, &packet).0, number, "{crc:?} {len}");
+            assert_eq!(common::seal(crc, &packet).0, number, "{crc:?} {len}");
+            if number != 0 {
+                assert_eq!(common::remainder(crc, &packet).1, UNSET);
+                assert_eq!(common::seal(crc, &packet).1, packet);
+            }
         }
     }
 }
@@ -345,15 +425,15 @@ fn remainder_of_every_short_packet() {
 fn seal_sets_the_last_bits() {
     let mut random = Random::new(2);
     for _ in 0..20_000 {
-        let generator = some_generator(&mut random);
+        let crc = some_crc(&mut random);
         let len = some_bytes(&mut random);
         let packet = random.packet(len);
         let mut sealed = packet.clone();
-        let number = reference::seal(generator, &mut sealed).err().unwrap_or(0);
-        assert_eq!(common::seal(generator, &packet), (number, sealed.clone()), "{generator} {packet:02X?}");
+        let number = reference::seal(crc, &mut sealed).err().unwrap_or(0);
+        assert_eq!(common::seal(crc, &packet), (number, sealed.clone()), "{crc:?} {packet:02X?}");
         if number == 0 {
-            assert_eq!(common::remainder(generator, &sealed), (0, 0), "{generator} {packet:02X?}");
-            assert_eq!(common::seal(generator, &sealed), (0, sealed.clone()), "{generator} {packet:02X?}");
+            assert_eq!(common::remainder(crc, &sealed), (0, 0), "{crc:?} {packet:02X?}");
+            assert_eq!(common::seal(crc, &sealed), (0, sealed.clone()), "{crc:?} {packet:02X?}");
         }
     }
 }
@@ -654,7 +734,7 @@ fn pages_joined_are_the_list() {
 
 /// A packet with its range and what was sent, damaged in some bits.
 struct Received {
-    generator: u64,
+    crc: Crc,
     start: usize,
     end: usize,
     limit: usize,
@@ -665,6 +745,7 @@ struct Received {
 
 fn some_received(random: &mut Random, most: u64) -> Received {
     let generator = random.known_generator();
+    let crc = random.values(generator);
     let n = reference::degree(generator);
     let limit = random.within(1, 4);
     let least = (n + 8).div_ceil(8); // a byte of range and the CRC
@@ -678,11 +759,11 @@ fn some_received(random: &mut Random, most: u64) -> Received {
         let field = start + 2 * random.within(0, (end - start - 2) / 2);
         reference::stamp(generator, start, end, field, &mut sent).unwrap();
     }
-    reference::seal(generator, &mut sent).unwrap();
+    reference::seal(crc, &mut sent).unwrap();
     let flips = random.within(0, limit + 1);
     let pattern = random.positions(flips, 8 * len);
     let packet = reference::flipped(&sent, &pattern);
-    Received { generator, start, end, limit, packet, sent, flips: pattern.len() }
+    Received { crc, start, end, limit, packet, sent, flips: pattern.len() }
 }
 
 #[test]
@@ -691,9 +772,9 @@ fn repair_gives_the_verdict() {
     let mut seen = [0; 4];
     for round in 0..3_000 {
         let received = some_received(&mut random, if round % 100 == 0 { 2_000_000 } else { 30_000 });
-        let tables = reference::tables_of(received.generator);
+        let tables = reference::tables_of(received.crc.generator);
         let call = RepairCall {
-            generator: received.generator,
+            crc: received.crc,
             start: received.start,
             end: received.end,
             limit: received.limit,
@@ -739,11 +820,12 @@ fn repair_of_long_packets() {
         for flips in 0..=limit {
             let (start, end) = (random.within(0, 3), (8 * len - n) / 8 - random.within(0, 1));
             let mut sent = random.bytes(len);
+            let crc = random.values(generator);
             reference::stamp(generator, start, end, start + 2, &mut sent).unwrap();
-            reference::seal(generator, &mut sent).unwrap();
+            reference::seal(crc, &mut sent).unwrap();
             let packet = reference::flipped(&sent, &random.positions(flips, 8 * len));
             let (step, first) = (&tables.step[..], &tables.first[..]);
-            let call = RepairCall { generator, start, end, limit, step, first, packet: &packet };
+            let call = RepairCall { crc, start, end, limit, step, first, packet: &packet };
             let lent = RepairLent { output: random.bytes(len), verdict: random.bytes(VERDICT_BYTES) };
             let verdict = compare_repair(&call, &lent).unwrap();
             assert_ne!(verdict, Verdict::None);
@@ -763,8 +845,8 @@ fn repair_of_any_bytes() {
         let tables = reference::tables_of(generator);
         let end = random.within(0, len + 1);
         let start = random.within(0, end);
-        let call =
-            RepairCall { generator, start, end, limit, step: &tables.step, first: &tables.first, packet: &packet };
+        let crc = random.values(generator);
+        let call = RepairCall { crc, start, end, limit, step: &tables.step, first: &tables.first, packet: &packet };
         let lent = RepairLent { output: random.bytes(len), verdict: random.bytes(VERDICT_BYTES) };
         let _ = compare_repair(&call, &lent);
     }
@@ -788,9 +870,9 @@ fn publish_tells_what_to_publish_from() {
     }
 }
 
-// ---- refusals: every set of broken conditions, and the lowest number told
+// ---- refusals: every set of broken conditions, and the number of the first that is tested
 
-/// What a set of conditions asks for: whether each number is in it, and the lowest.
+/// What a set of conditions asks for: whether each number is in it, and which of them comes first in a call's order.
 struct Broken(u32);
 
 impl Broken {
@@ -798,12 +880,8 @@ impl Broken {
         self.0 >> number & 1 == 1
     }
 
-    fn lowest(&self) -> u32 {
-        if self.0 == 0 {
-            0
-        } else {
-            self.0.trailing_zeros()
-        }
+    fn first(&self, order: &[u32]) -> u32 {
+        order.iter().copied().find(|&number| self.has(number)).unwrap_or(0)
     }
 
     /// Every subset of the numbers.
@@ -832,9 +910,10 @@ fn unfit_limit(random: &mut Random) -> usize {
 }
 
 #[test]
-fn page_refuses_by_the_lowest_number() {
+fn page_refuses_by_the_first_that_applies() {
     let mut random = Random::new(16);
-    for broken in Broken::subsets(&[1, 2, 3, 4, 5, 6, 7, 8]) {
+    let order = [1, 2, 3, 4, 5, 6, 7, 8];
+    for broken in Broken::subsets(&order) {
         for _ in 0..24 {
             let degree = random.within(3, 8) as u32;
             let generator = random.generator(degree);
@@ -876,15 +955,16 @@ fn page_refuses_by_the_lowest_number() {
             };
             let len = if broken.has(8) { random.within(0, 8) } else { random.within(9, 60) };
             let lent = PageLent::new(mark, random.bytes(len));
-            assert_eq!(compare_page(&call, &lent), broken.lowest(), "{call:?} {lent:?}");
+            assert_eq!(compare_page(&call, &lent), broken.first(&order), "{call:?} {lent:?}");
         }
     }
 }
 
 #[test]
-fn repair_refuses_by_the_lowest_number() {
+fn repair_refuses_by_the_first_that_applies() {
     let mut random = Random::new(17);
-    for broken in Broken::subsets(&[1, 2, 3, 5, 6, 8, 9]) {
+    let order = [1, 2, 11, 3, 5, 6, 8, 9];
+    for broken in Broken::subsets(&order) {
         for _ in 0..24 {
             let degree = random.within(3, 8) as u32;
             let generator = random.generator(degree);
@@ -924,8 +1004,15 @@ fn repair_refuses_by_the_lowest_number() {
                     first = unfit_length(&mut random, &first);
                 }
             }
+            let mut crc = random.values(generator);
+            if broken.has(11) {
+                crc = unfit_values(&mut random, crc);
+            }
+            if broken.has(1) {
+                crc.generator = random.pick(&UNFIT_GENERATORS);
+            }
             let call = RepairCall {
-                generator: if broken.has(1) { random.pick(&UNFIT_GENERATORS) } else { generator },
+                crc,
                 start,
                 end,
                 limit: if broken.has(3) { unfit_limit(&mut random) } else { limit },
@@ -945,7 +1032,7 @@ fn repair_refuses_by_the_lowest_number() {
             }
             let lent = RepairLent { output: random.bytes(output), verdict: random.bytes(verdict) };
             let number = compare_repair(&call, &lent).err().unwrap_or(0);
-            assert_eq!(number, broken.lowest(), "{call:?} {lent:?}");
+            assert_eq!(number, broken.first(&order), "{call:?} {lent:?}");
         }
     }
 }
@@ -963,12 +1050,18 @@ fn huge_numbers_are_refused() {
         assert_eq!(compare_page(&PageCall { syndrome: huge as u64, ..call.clone() }, &lent), 4);
         assert_eq!(compare_page(&PageCall { generator: huge as u64, ..call.clone() }, &lent), 1);
 
-        let call = RepairCall { generator: rangqoda::CCITT, start: 0, end: 14, limit: 1, step, first, packet: &packet };
+        let crc = Crc::plain(rangqoda::CCITT);
+        let call = RepairCall { crc, start: 0, end: 14, limit: 1, step, first, packet: &packet };
         let lent = RepairLent { output: vec![0; 16], verdict: vec![0; VERDICT_BYTES] };
         assert_eq!(compare_repair(&RepairCall { start: huge, ..call.clone() }, &lent), Err(9));
         assert_eq!(compare_repair(&RepairCall { end: huge, ..call.clone() }, &lent), Err(9));
         assert_eq!(compare_repair(&RepairCall { limit: huge, ..call.clone() }, &lent), Err(3));
-        assert_eq!(compare_repair(&RepairCall { generator: huge as u64, ..call.clone() }, &lent), Err(1));
+        for (generator, init, xorout, number) in
+            [(huge as u64, 0, 0, 1), (0x11021, huge as u64, 0, 11), (0x11021, 0, huge as u64, 11)]
+        {
+            let crc = Crc { generator, init, xorout };
+            assert_eq!(compare_repair(&RepairCall { crc, ..call.clone() }, &lent), Err(number));
+        }
     }
 }
 
@@ -1013,13 +1106,13 @@ fn the_wrapper_repairs_and_hands_back() {
     let mut seen = [0; 4];
     for _ in 0..1_000 {
         let received = some_received(&mut random, 20_000);
-        let tables = rangqoda::Tables::new(received.generator).unwrap();
+        let tables = rangqoda::Tables::new(received.crc.generator).unwrap();
         let range = received.start..received.end;
         let mut copy = vec![0xEE; received.packet.len()];
-        let verdict = tables.repair(range, received.limit, &received.packet, &mut copy).unwrap();
+        let verdict = tables.repair(received.crc, range, received.limit, &received.packet, &mut copy).unwrap();
         let handed = rangqoda::hand_back(&received.packet, &copy, &verdict);
         let of = reference::RepairOf {
-            generator: received.generator,
+            crc: received.crc,
             start: received.start,
             end: received.end,
             limit: received.limit,
@@ -1060,8 +1153,8 @@ fn the_wrapper_repairs_and_hands_back() {
 fn the_wrapper_passes_refusals_on() {
     use rangqoda::{Mark, Pattern, Refusal, TableSlices, Tables, CCITT, FIVE};
     for generator in UNFIT_GENERATORS {
-        assert_eq!(rangqoda::remainder(generator, &[0; 8]), Err(Refusal::Generator));
-        assert_eq!(rangqoda::seal(generator, &mut [0; 8]), Err(Refusal::Generator));
+        assert_eq!(rangqoda::remainder(Crc::plain(generator), &[0; 8]), Err(Refusal::Generator));
+        assert_eq!(rangqoda::seal(Crc::plain(generator), &mut [0; 8]), Err(Refusal::Generator));
         assert_eq!(Tables::new(generator), Err(Refusal::Generator));
     }
     for (number, refusal) in (1..).zip(Refusal::ALL) {
@@ -1072,7 +1165,12 @@ fn the_wrapper_passes_refusals_on() {
     let TableSlices { step, first } = tables.as_slices();
     let mut output = [0; 16];
     let after = |positions: &[u16]| Mark::After(Pattern::new(positions).unwrap());
-    assert_eq!(rangqoda::remainder(CCITT, &[0; 2]), Err(Refusal::Length));
+    assert_eq!(rangqoda::remainder(Crc::plain(CCITT), &[0; 2]), Err(Refusal::Length));
+    let (wide, five) = (Crc { generator: FIVE, init: 0, xorout: 32 }, Crc::plain(FIVE));
+    assert_eq!(rangqoda::remainder(wide, &[0; 2]), Err(Refusal::Values));
+    assert_eq!(rangqoda::seal(wide, &mut [0; 2]), Err(Refusal::Values));
+    assert_eq!(tables.repair(wide, 0..2, 0, &[0; 3], &mut output[..3]), Err(Refusal::Values));
+    assert_eq!(tables.repair(Crc::plain(CCITT), 0..1, 1, &[0; 3], &mut output[..3]), Err(Refusal::TableLength));
     assert_eq!(tables.page(5, 2, 3, Mark::Start, &mut output), Err(Refusal::Length));
     assert_eq!(tables.page(8, 5, 3, Mark::Start, &mut output), Err(Refusal::Limit));
     assert_eq!(tables.page(8, 2, 32, Mark::Start, &mut output), Err(Refusal::Syndrome));
@@ -1084,8 +1182,8 @@ fn the_wrapper_passes_refusals_on() {
     assert_eq!(tables.page(8, 2, 3, after(&[1, 2, 3]), &mut output), Err(Refusal::Mark));
     assert_eq!(tables.page(8, 2, 3, after(&[8]), &mut output), Err(Refusal::Mark));
     assert_eq!(tables.page(8, 2, 3, Mark::Start, &mut output[..8]), Err(Refusal::Output));
-    assert_eq!(tables.repair(0..2, 1, &[0; 3], &mut output), Err(Refusal::Output));
-    assert_eq!(tables.repair(0..3, 1, &[0; 3], &mut output[..3]), Err(Refusal::Range));
+    assert_eq!(tables.repair(five, 0..2, 1, &[0; 3], &mut output), Err(Refusal::Output));
+    assert_eq!(tables.repair(five, 0..3, 1, &[0; 3], &mut output[..3]), Err(Refusal::Range));
     assert_eq!(rangqoda::stamp(CCITT, 0..4, 1, &mut output), Err(Refusal::Field));
     assert_eq!(tables.patterns(8, 0, 3).err(), Some(Refusal::Limit));
     assert_eq!(output, [0; 16]);

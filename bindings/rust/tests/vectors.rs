@@ -2,8 +2,8 @@
 //! values of the catalogue of parametrised CRC algorithms.
 
 use rangqoda::{
-    hand_back, page, remainder, repair, seal, stamp, sum, Mark, Pattern, Refusal, TableSlices, Tables, Verdict, CCITT,
-    FIVE, NO_POSITION,
+    catalogue, hand_back, page, remainder, repair, seal, stamp, sum, Crc, Mark, Pattern, Refusal, TableSlices, Tables,
+    Verdict, CCITT, FIVE, NO_POSITION,
 };
 
 /// The list, as slices of positions.
@@ -27,9 +27,9 @@ fn bits(digits: &str) -> Vec<u8> {
 
 #[test]
 fn remainders_of_three_bit_generators() {
-    assert_eq!(remainder(9, &bits("101110000")), Ok(3));
-    assert_eq!(remainder(11, &bits("1100010")), Ok(0));
-    assert_eq!(remainder(11, &bits("1101010")), Ok(3));
+    assert_eq!(remainder(Crc::plain(9), &bits("101110000")), Ok(3));
+    assert_eq!(remainder(Crc::plain(11), &bits("1100010")), Ok(0));
+    assert_eq!(remainder(Crc::plain(11), &bits("1101010")), Ok(3));
 }
 
 #[test]
@@ -91,18 +91,18 @@ fn the_sum_of_rfc_1071() {
 fn verdicts_of_five() {
     let tables = Tables::new(FIVE).unwrap();
     let mut output = [0xAA; 3];
-    assert_eq!(tables.repair(0..2, 1, &[0xFF, 0xFF, 0x05], &mut output), Ok(Verdict::Intact));
+    assert_eq!(tables.repair(Crc::plain(FIVE), 0..2, 1, &[0xFF, 0xFF, 0x05], &mut output), Ok(Verdict::Intact));
     assert_eq!(output, [0xAA; 3]);
 
-    assert_eq!(remainder(FIVE, &[0xFF, 0xFF, 0x06]), Ok(3));
-    assert_eq!(tables.repair(0..2, 1, &[0xFF, 0xFF, 0x06], &mut output), Ok(Verdict::None));
-    let several = tables.repair(0..2, 2, &[0xFF, 0xFF, 0x06], &mut output).unwrap();
+    assert_eq!(remainder(Crc::plain(FIVE), &[0xFF, 0xFF, 0x06]), Ok(3));
+    assert_eq!(tables.repair(Crc::plain(FIVE), 0..2, 1, &[0xFF, 0xFF, 0x06], &mut output), Ok(Verdict::None));
+    let several = tables.repair(Crc::plain(FIVE), 0..2, 2, &[0xFF, 0xFF, 0x06], &mut output).unwrap();
     assert!(matches!(several, Verdict::Several { count: 2, pattern } if pattern.len() == 2), "{several:?}");
     assert_eq!(output, [0xAA; 3]);
 
-    let s = remainder(FIVE, &[0x7F, 0xFF, 0x05]).unwrap();
+    let s = remainder(Crc::plain(FIVE), &[0x7F, 0xFF, 0x05]).unwrap();
     assert_eq!(list(FIVE, 24, 1, s), [[8], [23]]);
-    let repaired = tables.repair(0..2, 1, &[0x7F, 0xFF, 0x05], &mut output).unwrap();
+    let repaired = tables.repair(Crc::plain(FIVE), 0..2, 1, &[0x7F, 0xFF, 0x05], &mut output).unwrap();
     assert_eq!(repaired, Verdict::Repaired(pattern(&[23])));
     assert_eq!(output, [0xFF, 0xFF, 0x05]);
 }
@@ -123,7 +123,7 @@ fn the_small_inputs_of_the_refusals() {
     let tables = Tables::new(FIVE).unwrap();
     let mut output = [0; 16];
     for generator in [8, 7, 131073] {
-        assert_eq!(remainder(generator, &[0; 8]), Err(Refusal::Generator));
+        assert_eq!(remainder(Crc::plain(generator), &[0; 8]), Err(Refusal::Generator));
     }
     assert_eq!(tables.page(5, 1, 0, Mark::Start, &mut output), Err(Refusal::Length));
     assert_eq!(tables.page(8, 5, 0, Mark::Start, &mut output), Err(Refusal::Limit));
@@ -134,11 +134,13 @@ fn the_small_inputs_of_the_refusals() {
     wrong[1] = 0;
     let lent = TableSlices { step: &wrong, first };
     assert_eq!(page(FIVE, 8, 1, 0, lent, Mark::Start, &mut output), Err(Refusal::TableEntry));
-    assert_eq!(repair(FIVE, 0..2, 1, lent, &[0; 3], &mut output[..3]), Err(Refusal::TableEntry));
+    assert_eq!(repair(Crc::plain(FIVE), 0..2, 1, lent, &[0; 3], &mut output[..3]), Err(Refusal::TableEntry));
     assert_eq!(tables.page(8, 2, 0, Mark::After(pattern(&[3, 3])), &mut output), Err(Refusal::Mark));
     assert_eq!(tables.page(8, 2, 0, Mark::Start, &mut output[..8]), Err(Refusal::Output));
     assert_eq!(stamp(CCITT, 0..3, 0, &mut [0; 4]), Err(Refusal::Range));
     assert_eq!(stamp(CCITT, 0..4, 1, &mut [0; 8]), Err(Refusal::Field));
+    assert_eq!(remainder(Crc { generator: FIVE, init: 32, xorout: 0 }, &[0]), Err(Refusal::Values));
+    assert_eq!(seal(Crc { generator: FIVE, init: 0, xorout: 32 }, &mut [0]), Err(Refusal::Values));
 }
 
 // ---- the traps
@@ -147,15 +149,15 @@ fn the_small_inputs_of_the_refusals() {
 fn positions_a_period_later_are_not_lost() {
     assert_eq!(list(FIVE, 50, 1, 1), [[0], [15], [30], [45]]);
     assert!(list(FIVE, 16, 2, 1).contains(&vec![15]));
-    assert!(list(FIVE, 24, 1, remainder(FIVE, &[0x7F, 0xFF, 0x05]).unwrap()).contains(&vec![23]));
+    assert!(list(FIVE, 24, 1, remainder(Crc::plain(FIVE), &[0x7F, 0xFF, 0x05]).unwrap()).contains(&vec![23]));
 }
 
 #[test]
 fn positions_are_counted_from_the_right() {
     // in five bits with one error the syndrome 6 is the leftmost bit's, position 4
-    assert_eq!(remainder(11, &[0b10000]), Ok(6));
+    assert_eq!(remainder(Crc::plain(11), &[0b10000]), Ok(6));
     assert_eq!(list(11, 5, 1, 6), [[4]]);
-    assert_eq!(remainder(FIVE, &[0, 0, 1]), Ok(1));
+    assert_eq!(remainder(Crc::plain(FIVE), &[0, 0, 1]), Ok(1));
     assert_eq!(list(FIVE, 15, 1, 1), [[0]]);
 }
 
@@ -187,9 +189,9 @@ fn remainder_0_has_more_than_the_empty_pattern() {
     for position in [8, 23] {
         sent[2 - position / 8] ^= 1 << (position % 8);
     }
-    assert_eq!(remainder(FIVE, &sent), Ok(0));
+    assert_eq!(remainder(Crc::plain(FIVE), &sent), Ok(0));
     let mut output = [0; 3];
-    let verdict = tables.repair(0..2, 2, &sent, &mut output).unwrap();
+    let verdict = tables.repair(Crc::plain(FIVE), 0..2, 2, &sent, &mut output).unwrap();
     assert_eq!((verdict, output), (Verdict::Repaired(pattern(&[8, 23])), [0xFF, 0xFF, 0x05]));
 }
 
@@ -281,31 +283,71 @@ const CATALOGUE: [Published; 78] = [
     ("CRC-16/XMODEM", 16, 0x1021, 0x0, false, false, 0x0, 0x31C3),
 ];
 
-/// A CRC by the remainder: the message, with the initial value XORed into its first bits, then as many zeros as the
-/// degree. The zeros put before it, so that the packet is whole bytes, change nothing.
-fn crc(width: u32, poly: u64, init: u64, refin: bool, refout: bool, xorout: u64) -> u64 {
+/// What has to be multiplied by x so many times to leave the value.
+fn undone(value: u64, times: u32, generator: u64) -> u64 {
+    (0..times).fold(value, |value, _| if value & 1 == 1 { (value ^ generator) >> 1 } else { value >> 1 })
+}
+
+/// The message and as many zero bits as the degree, filled up to whole bytes by zeros in front, and the CRC for it: these zeros
+/// move the initial value up by as many places, which is undone beforehand.
+fn framed(width: u32, poly: u64, init: u64, refin: bool, xorout: u64) -> (Crc, Vec<u8>) {
     let mut message = 0u128;
     for &byte in b"123456789" {
         message = message << 8 | u128::from(if refin { byte.reverse_bits() } else { byte });
     }
-    message ^= u128::from(init) << (72 - width);
-    let packet = (message << width).to_be_bytes();
-    let left = remainder(1 << width | poly, &packet).unwrap();
-    let left = if refout { left.reverse_bits() >> (64 - width) } else { left };
-    left ^ xorout
+    let len = (72 + width as usize).div_ceil(8);
+    let packet = (message << width).to_be_bytes()[16 - len..].to_vec();
+    let generator = 1 << width | poly;
+    (Crc { generator, init: undone(init, 8 * len as u32 - 72 - width, generator), xorout }, packet)
+}
+
+fn mirrored(value: u64, width: u32) -> u64 {
+    value.reverse_bits() >> (64 - width)
 }
 
 #[test]
 fn published_check_values() {
     for (name, width, poly, init, refin, refout, xorout, check) in CATALOGUE {
-        assert_eq!(crc(width, poly, init, refin, refout, xorout), check, "{name}");
+        let (xorout, check) = if refout { (mirrored(xorout, width), mirrored(check, width)) } else { (xorout, check) };
+        let (crc, mut packet) = framed(width, poly, init, refin, xorout);
+        assert_eq!(remainder(crc, &packet), Ok(check), "{name}");
+        let before = packet.clone();
+        seal(crc, &mut packet).unwrap();
+        let last = packet.len() - 2;
+        let bits = |packet: &[u8]| u64::from(packet[last]) << 8 | u64::from(packet[last + 1]);
+        assert_eq!((&packet[..last], bits(&packet) ^ bits(&before)), (&before[..last], check), "{name}");
+        assert_eq!(remainder(crc, &packet), Ok(0), "{name}");
     }
 }
 
 #[test]
+fn the_names_stand_for_the_catalogues_crcs() {
+    let mut covered = CATALOGUE.iter().filter(|row| !row.4 && !row.5);
+    for (name, crc) in catalogue::ALL {
+        let &(called, width, poly, init, _, _, xorout, _) = covered.next().unwrap();
+        assert_eq!((*name, *crc), (called, Crc { generator: 1 << width | poly, init, xorout }));
+    }
+    assert_eq!(covered.next(), None);
+}
+
+#[test]
 fn sealing_appends_a_published_check_value() {
-    let mut packet = *b"123456789\0\0";
-    seal(CCITT, &mut packet).unwrap();
-    assert_eq!(packet[9..], [0x31, 0xC3]);
-    assert_eq!(remainder(CCITT, &packet), Ok(0));
+    for (crc, check) in [
+        (catalogue::CRC_16_XMODEM, [0x31, 0xC3]),
+        (catalogue::CRC_16_IBM_3740, [0x29, 0xB1]),
+        (catalogue::CRC_16_GENIBUS, [0xD6, 0x4E]),
+        (catalogue::CRC_16_SPI_FUJITSU, [0xE5, 0xCC]),
+    ] {
+        let mut packet = *b"123456789\0\0";
+        seal(crc, &mut packet).unwrap();
+        assert_eq!(packet[9..], check);
+        assert_eq!(remainder(crc, &packet), Ok(0));
+    }
+}
+
+#[test]
+fn values_over_the_same_bits() {
+    for (init, xorout, left) in [(31, 0, 25), (0, 31, 31), (31, 31, 6)] {
+        assert_eq!(remainder(Crc { generator: FIVE, init, xorout }, &[0]), Ok(left));
+    }
 }

@@ -5,7 +5,7 @@
 mod lookup;
 
 use lookup::{Found, Lookup, Reader, Summing, TableCrc};
-use rangqoda::{remainder, seal, stamp, Mark, Tables, Verdict, CCITT, FIVE};
+use rangqoda::{catalogue::CRC_16_XMODEM as CRC, remainder, seal, stamp, Mark, Tables, Verdict, CCITT, FIVE};
 use std::hint::black_box;
 use std::time::{Duration, Instant};
 
@@ -88,7 +88,7 @@ fn lists(random: &mut Random, tables: &Tables, lookup: &Lookup, verifying: Durat
         for position in random.positions(limit, length) {
             packet[position / 8] ^= 1 << (position % 8);
         }
-        let syndrome = remainder(CCITT, &packet).unwrap();
+        let syndrome = remainder(CRC, &packet).unwrap();
         let patterns = tables.patterns(length, limit, syndrome).unwrap().count();
         let bytes = 9 * patterns.max(1);
 
@@ -156,7 +156,7 @@ fn damaged(random: &mut Random, packets: usize, len: usize, flips: usize) -> Vec
         .map(|_| {
             let mut packet: Vec<u8> = (0..len).map(|_| random.below(256) as u8).collect();
             stamp(CCITT, 0..len - 2, len - 4, &mut packet).unwrap();
-            seal(CCITT, &mut packet).unwrap();
+            seal(CRC, &mut packet).unwrap();
             for position in random.positions(flips, 8 * len) {
                 packet[position / 8] ^= 1 << (position % 8);
             }
@@ -185,7 +185,7 @@ fn repairs(random: &mut Random, tables: &Tables, reader: &Reader, verifying: Dur
         let range = 0..len - 2;
         for packet in &received {
             let (mut copy, mut other) = (vec![0; len], vec![0; len]);
-            let verdict = tables.repair(range.clone(), limit, packet, &mut copy).unwrap();
+            let verdict = tables.repair(CRC, range.clone(), limit, packet, &mut copy).unwrap();
             for summing in [Summing::Anew, Summing::Corrected] {
                 other.fill(0);
                 let found = reader.repair(range.clone(), limit, packet, &mut other, summing);
@@ -194,7 +194,7 @@ fn repairs(random: &mut Random, tables: &Tables, reader: &Reader, verifying: Dur
         }
         let mut library = |output: &mut Vec<u8>| {
             for packet in &received {
-                black_box(tables.repair(range.clone(), limit, packet, output).unwrap());
+                black_box(tables.repair(CRC, range.clone(), limit, packet, output).unwrap());
             }
         };
         let mut anew = |output: &mut Vec<u8>| {
@@ -228,11 +228,11 @@ fn remainders(random: &mut Random, crc: &TableCrc) {
     for len in [64, 512] {
         let packets = damaged(random, 1000, len, 1);
         for packet in &packets {
-            assert_eq!(remainder(CCITT, packet), Ok(crc.remainder(packet).into()));
+            assert_eq!(remainder(CRC, packet), Ok(crc.remainder(packet).into()));
         }
         let mut library = |_: &mut ()| {
             for packet in &packets {
-                black_box(remainder(CCITT, black_box(packet)).unwrap());
+                black_box(remainder(CRC, black_box(packet)).unwrap());
             }
         };
         let mut plain = |_: &mut ()| {

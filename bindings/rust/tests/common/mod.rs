@@ -3,7 +3,7 @@
 
 #![allow(dead_code)] // no test uses all of it
 
-use rangqoda::ffi;
+use rangqoda::{ffi, Crc};
 
 /// A xorshift generator: a seed repeats a run.
 pub struct Random(u64);
@@ -63,6 +63,17 @@ impl Random {
         self.generator(degree)
     }
 
+    /// The generator with initial and final values: both 0 as often as not, and now and then all ones.
+    pub fn values(&mut self, generator: u64) -> Crc {
+        let bound = 1 << generator.max(1).ilog2();
+        let mut value = || match self.below(6) {
+            0..=2 => 0,
+            3 => bound - 1,
+            _ => self.below(bound),
+        };
+        Crc { generator, init: value(), xorout: value() }
+    }
+
     /// An accepted generator of any degree, one of a hundred, so that the tables of many a call are at hand.
     pub fn known_generator(&mut self) -> u64 {
         let degree = self.within(3, 16) as u32;
@@ -106,6 +117,18 @@ pub const UNFIT_GENERATORS: [u64; 16] = [
     u64::MAX,
     u64::MAX - 1,
 ];
+
+/// The CRC with one of its values, or both, not below 2^n.
+pub fn unfit_values(random: &mut Random, crc: Crc) -> Crc {
+    let bound = 1 << crc.generator.ilog2();
+    let mut unfit = || random.pick(&[bound, bound + 1, 2 * bound, 1 << 32, 1 << 32 | 1, 1 << 63, u64::MAX]);
+    let (init, xorout) = (unfit(), unfit());
+    match random.below(3) {
+        0 => Crc { init, ..crc },
+        1 => Crc { xorout, ..crc },
+        _ => Crc { init, xorout, ..crc },
+    }
+}
 
 /// Sizes at which a careless product, sum or cast wraps.
 pub const HUGE: [usize; 10] = [
@@ -170,17 +193,21 @@ pub const UNSET: u64 = 0xA5A5_5A5A_0F0F_F0F1;
 
 // Each function below lends guarded memory, makes the call, and gives its answer with what may have changed.
 
-pub fn remainder(generator: u64, packet: &[u8]) -> (u32, u64) {
+pub fn remainder(crc: Crc, packet: &[u8]) -> (u32, u64) {
     let lent = Guarded::new(packet);
     let mut remainder = Guarded::new(&[UNSET]);
-    let number = unsafe { ffi::rangqoda_remainder(generator, lent.as_ptr(), packet.len(), remainder.as_mut_ptr()) };
+    let Crc { generator, init, xorout } = crc;
+    let number = unsafe {
+        ffi::rangqoda_remainder(generator, init, xorout, lent.as_ptr(), packet.len(), remainder.as_mut_ptr())
+    };
     lent.kept(packet);
     (number, remainder.content()[0])
 }
 
-pub fn seal(generator: u64, packet: &[u8]) -> (u32, Vec<u8>) {
+pub fn seal(crc: Crc, packet: &[u8]) -> (u32, Vec<u8>) {
     let mut lent = Guarded::new(packet);
-    let number = unsafe { ffi::rangqoda_seal(generator, lent.as_mut_ptr(), packet.len()) };
+    let Crc { generator, init, xorout } = crc;
+    let number = unsafe { ffi::rangqoda_seal(generator, init, xorout, lent.as_mut_ptr(), packet.len()) };
     (number, lent.content().to_vec())
 }
 
@@ -286,7 +313,7 @@ pub fn page(call: &PageCall<'_>, before: &PageLent) -> (u32, PageLent) {
 /// What is lent to a repair: what it reads, and what it may write.
 #[derive(Clone, Debug)]
 pub struct RepairCall<'a> {
-    pub generator: u64,
+    pub crc: Crc,
     pub start: usize,
     pub end: usize,
     pub limit: usize,
@@ -309,7 +336,9 @@ pub fn repair(call: &RepairCall<'_>, before: &RepairLent) -> (u32, RepairLent) {
     let mut verdict = Guarded::new(&before.verdict);
     let number = unsafe {
         ffi::rangqoda_repair(
-            call.generator,
+            call.crc.generator,
+            call.crc.init,
+            call.crc.xorout,
             call.start,
             call.end,
             call.limit,

@@ -3,6 +3,7 @@
 //!
 //! A call gives `Err` with the number of the condition that refused it, and then has changed nothing.
 
+use rangqoda::Crc;
 use std::cell::RefCell;
 use std::rc::Rc;
 
@@ -68,6 +69,21 @@ fn bytes(bits: &[bool]) -> Vec<u8> {
     bits.chunks(8).map(|eight| eight.iter().fold(0, |byte, &bit| byte << 1 | u8::from(bit))).collect()
 }
 
+/// The bits as the CRC reads them: the initial value's bits are added to the first ones and the final value's to the last
+/// ones, each value with its highest bit first.
+fn read(mut bits: Vec<bool>, crc: Crc) -> Vec<bool> {
+    let n = degree(crc.generator);
+    let last = bits.len() - n;
+    let add = |bits: &mut [bool], value: u64| {
+        for (bit, place) in bits.iter_mut().zip((0..n).rev()) {
+            *bit ^= value >> place & 1 == 1;
+        }
+    };
+    add(&mut bits[..n], crc.init);
+    add(&mut bits[last..], crc.xorout);
+    bits
+}
+
 /// The packet with the bits at these positions flipped.
 pub fn flipped(packet: &[u8], pattern: &[u16]) -> Vec<u8> {
     let mut bits = bits(packet);
@@ -92,6 +108,13 @@ fn generator_fits(generator: u64) -> Answer<usize> {
 fn length_fits(length: u128, n: usize) -> Answer<()> {
     if length <= n as u128 || length > 4096 {
         return Err(2);
+    }
+    Ok(())
+}
+
+fn values_fit(crc: Crc, n: usize) -> Answer<()> {
+    if u128::from(crc.init) >= 1 << n || u128::from(crc.xorout) >= 1 << n {
+        return Err(11);
     }
     Ok(())
 }
@@ -156,21 +179,23 @@ fn packet_length(packet: &[u8]) -> u128 {
 
 // ---- remainder, seal, sum, stamp
 
-pub fn remainder(generator: u64, packet: &[u8]) -> Answer<u64> {
-    let n = generator_fits(generator)?;
+pub fn remainder(crc: Crc, packet: &[u8]) -> Answer<u64> {
+    let n = generator_fits(crc.generator)?;
     length_fits(packet_length(packet), n)?;
-    Ok(divide(bits(packet), generator))
+    values_fit(crc, n)?;
+    Ok(divide(read(bits(packet), crc), crc.generator))
 }
 
-pub fn seal(generator: u64, packet: &mut [u8]) -> Answer<()> {
-    let n = generator_fits(generator)?;
+pub fn seal(crc: Crc, packet: &mut [u8]) -> Answer<()> {
+    let n = generator_fits(crc.generator)?;
     length_fits(packet_length(packet), n)?;
+    values_fit(crc, n)?;
     let mut bits = bits(packet);
-    let crc = bits.len() - n;
-    bits[crc..].fill(false);
-    let r = divide(bits.iter().copied(), generator);
+    let last = bits.len() - n;
+    bits[last..].fill(false);
+    let r = divide(read(bits.clone(), crc), crc.generator);
     for i in 0..n {
-        bits[crc + i] = r >> (n - 1 - i) & 1 == 1;
+        bits[last + i] = r >> (n - 1 - i) & 1 == 1;
     }
     packet.copy_from_slice(&bytes(&bits));
     Ok(())
@@ -362,7 +387,7 @@ pub fn page(of: &PageOf<'_>, output: &mut [u8]) -> Answer<(usize, u64, Mark)> {
 /// What a repair is given, apart from the output.
 #[derive(Clone, Debug)]
 pub struct RepairOf<'a> {
-    pub generator: u64,
+    pub crc: Crc,
     pub start: usize,
     pub end: usize,
     pub limit: usize,
@@ -372,22 +397,23 @@ pub struct RepairOf<'a> {
 }
 
 pub fn repair(of: &RepairOf<'_>, output: &mut [u8]) -> Answer<Verdict> {
-    let n = generator_fits(of.generator)?;
+    let n = generator_fits(of.crc.generator)?;
     length_fits(packet_length(of.packet), n)?;
+    values_fit(of.crc, n)?;
     limit_fits(of.limit)?;
     table_lengths_fit(of.step, of.first, n)?;
-    table_entries_right(of.step, of.first, of.generator)?;
+    table_entries_right(of.step, of.first, of.crc.generator)?;
     if output.len() != of.packet.len() {
         return Err(8);
     }
     range_fits(of.start, of.end, packet_length(of.packet), n)?;
 
     let range_passes = |packet: &[u8]| sum(&packet[of.start..of.end]) == 0xFFFF;
-    let syndrome = divide(bits(of.packet), of.generator);
+    let syndrome = divide(read(bits(of.packet), of.crc), of.crc.generator);
     if syndrome == 0 && range_passes(of.packet) {
         return Ok(Verdict::Intact);
     }
-    let mut passing: Vec<Pattern> = list(of.generator, 8 * of.packet.len(), of.limit, syndrome)
+    let mut passing: Vec<Pattern> = list(of.crc.generator, 8 * of.packet.len(), of.limit, syndrome)
         .iter()
         .filter(|pattern| range_passes(&flipped(of.packet, pattern)))
         .cloned()

@@ -1,0 +1,72 @@
+//! The CRCs that the catalogues of parametrised CRC algorithms name, as far as the calls cover them: degree 3 to 16, the
+//! highest bit first, nothing reflected. The names are those of the `crc` crate.
+
+use crate::Crc;
+
+/// Defines the constants, and lists them all with the catalogues' names.
+macro_rules! catalogue {
+    ($($name:ident $called:literal $generator:literal $init:literal $xorout:literal)*) => {
+        $(
+            #[doc = concat!($called, ": generator ", stringify!($generator), ", initial value ", stringify!($init), ", final value ", stringify!($xorout), ".")]
+            pub const $name: Crc = Crc { generator: $generator, init: $init, xorout: $xorout };
+        )*
+
+        /// Every constant of this module, with its name in the catalogues.
+        pub const ALL: &[(&str, Crc)] = &[$(($called, $name)),*];
+    };
+}
+
+#[rustfmt::skip]
+catalogue! {
+    CRC_3_GSM "CRC-3/GSM" 0xB 0x0 0x7
+    CRC_4_INTERLAKEN "CRC-4/INTERLAKEN" 0x13 0xF 0xF
+    CRC_5_EPC_C1G2 "CRC-5/EPC-C1G2" 0x29 0x09 0x00
+    CRC_6_CDMA2000_A "CRC-6/CDMA2000-A" 0x67 0x3F 0x00
+    CRC_6_CDMA2000_B "CRC-6/CDMA2000-B" 0x47 0x3F 0x00
+    CRC_6_GSM "CRC-6/GSM" 0x6F 0x00 0x3F
+    CRC_7_MMC "CRC-7/MMC" 0x89 0x00 0x00
+    CRC_7_UMTS "CRC-7/UMTS" 0xC5 0x00 0x00
+    CRC_8_AUTOSAR "CRC-8/AUTOSAR" 0x12F 0xFF 0xFF
+    CRC_8_CDMA2000 "CRC-8/CDMA2000" 0x19B 0xFF 0x00
+    CRC_8_DVB_S2 "CRC-8/DVB-S2" 0x1D5 0x00 0x00
+    CRC_8_GSM_A "CRC-8/GSM-A" 0x11D 0x00 0x00
+    CRC_8_GSM_B "CRC-8/GSM-B" 0x149 0x00 0xFF
+    CRC_8_I_432_1 "CRC-8/I-432-1" 0x107 0x00 0x55
+    CRC_8_I_CODE "CRC-8/I-CODE" 0x11D 0xFD 0x00
+    CRC_8_LTE "CRC-8/LTE" 0x19B 0x00 0x00
+    CRC_8_MIFARE_MAD "CRC-8/MIFARE-MAD" 0x11D 0xC7 0x00
+    CRC_8_NRSC_5 "CRC-8/NRSC-5" 0x131 0xFF 0x00
+    CRC_8_OPENSAFETY "CRC-8/OPENSAFETY" 0x12F 0x00 0x00
+    CRC_8_SAE_J1850 "CRC-8/SAE-J1850" 0x11D 0xFF 0xFF
+    CRC_8_SMBUS "CRC-8/SMBUS" 0x107 0x00 0x00
+    CRC_10_ATM "CRC-10/ATM" 0x633 0x000 0x000
+    CRC_10_CDMA2000 "CRC-10/CDMA2000" 0x7D9 0x3FF 0x000
+    CRC_10_GSM "CRC-10/GSM" 0x575 0x000 0x3FF
+    CRC_11_FLEXRAY "CRC-11/FLEXRAY" 0xB85 0x01A 0x000
+    CRC_11_UMTS "CRC-11/UMTS" 0xB07 0x000 0x000
+    CRC_12_CDMA2000 "CRC-12/CDMA2000" 0x1F13 0xFFF 0x000
+    CRC_12_DECT "CRC-12/DECT" 0x180F 0x000 0x000
+    CRC_12_GSM "CRC-12/GSM" 0x1D31 0x000 0xFFF
+    CRC_13_BBC "CRC-13/BBC" 0x3CF5 0x0000 0x0000
+    CRC_14_GSM "CRC-14/GSM" 0x602D 0x0000 0x3FFF
+    CRC_15_CAN "CRC-15/CAN" 0xC599 0x0000 0x0000
+    CRC_15_MPT1327 "CRC-15/MPT1327" 0xE815 0x0000 0x0001
+    CRC_16_CDMA2000 "CRC-16/CDMA2000" 0x1C867 0xFFFF 0x0000
+    CRC_16_CMS "CRC-16/CMS" 0x18005 0xFFFF 0x0000
+    CRC_16_DDS_110 "CRC-16/DDS-110" 0x18005 0x800D 0x0000
+    CRC_16_DECT_R "CRC-16/DECT-R" 0x10589 0x0000 0x0001
+    CRC_16_DECT_X "CRC-16/DECT-X" 0x10589 0x0000 0x0000
+    CRC_16_EN_13757 "CRC-16/EN-13757" 0x13D65 0x0000 0xFFFF
+    CRC_16_GENIBUS "CRC-16/GENIBUS" 0x11021 0xFFFF 0xFFFF
+    CRC_16_GSM "CRC-16/GSM" 0x11021 0x0000 0xFFFF
+    CRC_16_IBM_3740 "CRC-16/IBM-3740" 0x11021 0xFFFF 0x0000
+    CRC_16_LJ1200 "CRC-16/LJ1200" 0x16F63 0x0000 0x0000
+    CRC_16_OPENSAFETY_A "CRC-16/OPENSAFETY-A" 0x15935 0x0000 0x0000
+    CRC_16_OPENSAFETY_B "CRC-16/OPENSAFETY-B" 0x1755B 0x0000 0x0000
+    CRC_16_PROFIBUS "CRC-16/PROFIBUS" 0x11DCF 0xFFFF 0xFFFF
+    CRC_16_SPI_FUJITSU "CRC-16/SPI-FUJITSU" 0x11021 0x1D0F 0x0000
+    CRC_16_T10_DIF "CRC-16/T10-DIF" 0x18BB7 0x0000 0x0000
+    CRC_16_TELEDISK "CRC-16/TELEDISK" 0x1A097 0x0000 0x0000
+    CRC_16_UMTS "CRC-16/UMTS" 0x18005 0x0000 0x0000
+    CRC_16_XMODEM "CRC-16/XMODEM" 0x11021 0x0000 0x0000
+}
