@@ -35,6 +35,10 @@ xor-half a b = omega (arith, xor-step a b, differ-lt (a % 2) (b % 2) (mod-two-lt
 pub xor-low : (a b : ℕ) → bitXor a b % 2 ≡ differ (a % 2) (b % 2)
 xor-low a b = omega (arith, xor-step a b, differ-lt (a % 2) (b % 2) (mod-two-lt a) (mod-two-lt b))
 
+-- a digit of the sum, at any place
+pub xor-bit : (a b p : ℕ) → bitXor a b / 2 ^ p % 2 ≡ differ (a / 2 ^ p % 2) (b / 2 ^ p % 2)
+xor-bit a b p = ap (λ (x : ℕ). x % 2) (xor-shr a b p) ∙ xor-low (a / 2 ^ p) (b / 2 ^ p)
+
 pub xor-assoc : (a b c : ℕ) → bitXor (bitXor a b) c ≡ bitXor a (bitXor b c)
 xor-assoc a =
     bin-ind (λ (n : ℕ). (b c : ℕ) → bitXor (bitXor n b) c ≡ bitXor n (bitXor b c))
@@ -90,7 +94,6 @@ differ-zero (suc d) = refl
 -- and no other bit changes
 pub xor-other : (b j k : ℕ) → j ≢ k → bitXor b (2 ^ j) / 2 ^ k % 2 ≡ b / 2 ^ k % 2
 xor-other b j k h =
-    ap (λ (x : ℕ). x % 2) (xor-shr b (2 ^ j) k)
-    ∙ xor-low (b / 2 ^ k) (2 ^ j / 2 ^ k)
+    xor-bit b (2 ^ j) k
     ∙ ap (differ (b / 2 ^ k % 2)) (power-even j k h)
     ∙ differ-zero (b / 2 ^ k % 2)

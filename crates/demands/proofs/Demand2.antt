@@ -21,7 +21,7 @@ use Rattle.poly.proofs.DivisionLaws.{quotient, remainder-unique}
 use Rattle.packet.specs.Packet.{Bytes, bits, unfitLength, unfitValues, asRead, remainder, sealed, bitAt, flips}
 use Rattle.packet.specs.Calls.{packetConditions, remainderCall, sealCall, sealPacket}
 use Rattle.packet.specs.declared.Crc.{Crc}
-use Rattle.packet.proofs.PacketLaws.{fit-length}
+use Rattle.packet.proofs.PacketLaws.{fit-length, fit-values}
 use Rattle.packet.proofs.FlipLaws.{flips-length}
 use Rattle.packet.proofs.RemainderLaws.{remainder-lt, remainder-flips}
 use Rattle.packet.proofs.SealLaws.{sealed-length, sealed-remainder, sealed-same, sealed-bit, sealed-only}
@@ -39,13 +39,23 @@ use Rattle.tables.proofs.PeriodLaws.{period-positive, power-period, period-leas
 use Rattle.tables.proofs.FirstLaws.{first-hit, first-least, first-none, first-zero}
 use Rattle.tables.proofs.TableLaws.{length-stepTable, length-firstTable, getD-stepTable, getD-firstTable}
 use Rattle.repair.specs.Verdicts.{passesBoth}
-use Rattle.demands.specs.Demand2.{Numbered, Remains, Stepped, FirstAt, IsPeriod}
+use Rattle.demands.specs.Demand2.{Numbered, Reads, Remains, Stepped, FirstAt, IsPeriod}
+use Rattle.demands.proofs.ReadBits.{bits-read}
 
 -- ---- remainders and seals are division of binary polynomials ----
 
 module _ (c : Crc) (numbered : Numbered c) (s : List ℕ) (b : Bytes s) where
   numbered-fit : unfit (c .generator .coefficients) ≡ false → Fit (c .generator)
   numbered-fit h = subst Fit numbered (fit-accepted (c .generator .coefficients) h)
+
+  -- what is divided is the packet with both values added, bit by bit
+  pub the-bits-read : (r : ℕ) → remainderCall c s ≡ accepted r → Reads c s (asRead c s)
+  the-bits-read r h =
+      let clear = judge-clear (packetConditions c (bits s)) (remainder c s) r h in
+      let fit = numbered-fit (clear 1) in
+      let small = fit-values (c .generator .degree) (c .init) (c .xorout) (clear 11) in
+      let long = fit-length (c .generator .degree) (bits s) (clear 2) .0 in
+      bits-read c s (record { fit = fit; init = small .0; xorout = small .1; long = omega arith }) b
 
   pub the-remainder : (r : ℕ) → remainderCall c s ≡ accepted r → Remains (c .generator .degree) (c .generator .coefficients) (asRead c s) r
   unfolding remainder

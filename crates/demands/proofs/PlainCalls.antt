@@ -1,9 +1,9 @@
 -- With initial and final values 0, remainder, seal and repair answer and leave what they do for the generator alone: every
 -- equation holds of every input, refused or accepted.
-use mathlib.Core.Path.{_≡_, ap, _∙_}
+use mathlib.Core.Path.{_≡_, ap}
 use mathlib.Core.Bool.{false}
 use mathlib.Core.List.{List}
-use Prim.Native.Nat.{ℕ, _^_}
+use Prim.Native.Nat.{ℕ}
 use borrow.Author.Tests.{lt-leb}
 use lib.Pow.{pow-pos}
 use Rattle.poly.specs.Polynomial.{rem}

@@ -1,15 +1,29 @@
--- What demand 2 says of a remainder, of the entries of both tables and of the period, for a generator g of degree n.
-use Prim.Native.Nat.{ℕ, _*_, _/_, _%_, _^_, _≤_, _<_}
+-- What demand 2 says of what is read of a packet, of a remainder, of the entries of both tables and of the period, for a generator g of degree n.
+use Prim.Native.Nat.{ℕ, _-_, _*_, _/_, _%_, _^_, _≤_, _<_}
 use mathlib.Core.Path.{_≡_}
 use mathlib.Core.Logic.{_↔_}
-use lib.Bits.{bitXor}
+use mathlib.Core.List.{List}
+use lib.Bits.{bitXor, differ}
+use lib.Dec.{ltb}
+use Rattle.base.specs.Outcome.{pick}
 use Rattle.poly.specs.Polynomial.{times, rem}
 use Rattle.poly.specs.Generators.{generatorOf}
+use Rattle.packet.specs.Packet.{bits, bitAt}
 use Rattle.packet.specs.declared.Crc.{Crc}
 
 -- a CRC by its numbers, as every call has it
 abbrev pub Numbered : Crc → Type 0
 Numbered c = generatorOf (c .generator .coefficients) ≡ c .generator
+
+-- the bit at position p of a value whose lowest bit stands at position `from`
+unfoldable pub bitFrom : ℕ → ℕ → ℕ → ℕ
+bitFrom v from p = pick (ltb p from) 0 (v / 2 ^ (p - from) % 2)
+
+-- v is read of a packet of L bits: it has no more bits, and each is the packet's, with that of the initial value added, whose
+-- lowest bit stands at position L - n, and that of the final value, whose lowest bit stands at position 0
+pub record Reads (c : Crc) (s : List ℕ) (v : ℕ) : Type 0 where
+  pub below : v < 2 ^ bits s
+  pub bit : (p : ℕ) → p < bits s → v / 2 ^ p % 2 ≡ differ (differ (bitAt s p) (bitFrom (c .init) (bits s - c .generator .degree) p)) (bitFrom (c .xorout) 0 p)
 
 -- r is what division leaves of a: there is a quotient, r is below 2 ^ n, and no other number is so
 pub record Remains (n g a r : ℕ) : Type 0 where

@@ -7,14 +7,14 @@ use native.Mathlib.Omega.{arith}
 use native.Mathlib.Nat.{mod-eq-of-lt, mod-one, div-one, mul-one, zero-mul, add-mul, mul-assoc}
 use native.Mathlib.Numerals.{add-one}
 use borrow.Author.Tests.{eqb-true, eqb-false}
-use lib.Bits.{bitXor, differ, xor-shr, xor-shifted, xor-comm, xor-lt}
+use lib.Bits.{bitXor, differ, xor-shifted, xor-comm, xor-lt}
 use lib.Dec.{eqb}
 use lib.ListN.{length}
 use lib.Pow.{pow-pos, pow-lt, mod-pow-add, shr-shr}
 use Rattle.base.specs.Lists.{All, none, each, Ascending, ends, next}
 use Rattle.base.proofs.Cases.{by-test, by-order}
 use Rattle.base.proofs.ListLaws.{ascending-from, ascending-all}
-use Rattle.base.proofs.XorLaws.{xor-low, xor-cancel, xor-ac}
+use Rattle.base.proofs.XorLaws.{xor-bit, xor-cancel, xor-ac}
 use Rattle.poly.specs.Polynomial.{powers}
 use Rattle.packet.specs.Packet.{Bytes, bits, polynomial, bytes, bitAt, flips, differing, difference}
 use Rattle.packet.proofs.PacketLaws.{bytes-polynomial}
@@ -74,8 +74,7 @@ module _ (s t : List ℕ) (bs : Bytes s) (bt : Bytes t) (same : length s ≡ len
   digit : (p : ℕ) → p < bits s → sum / 2 ^ p % 2 ≡ differ (bitAt s p) (bitAt t p)
   unfolding sum
   digit p h =
-      ap (λ (x : ℕ). x % 2) (xor-shr (polynomial s) (polynomial t) p)
-      ∙ xor-low (polynomial s / 2 ^ p) (polynomial t / 2 ^ p)
+      xor-bit (polynomial s) (polynomial t) p
       ∙ sym (ap₂ differ (bit-coefficient s p h bs) (bit-coefficient t p (omega arith) bt))
 
   differing-powers : (room from : ℕ) → from + room ≤ bits s → powers (differing s t room from) ≡ sum / 2 ^ from % 2 ^ room * 2 ^ from

@@ -59,6 +59,10 @@ byte-power (suc k) =
     let e : 8 * suc k ≡ 8 * k + 8 = omega arith in
     pow-suc 256 k ∙ ap (λ (x : ℕ). x * 256) (byte-power k) ∙ sym (ap (λ (x : ℕ). 2 ^ x) e ∙ pow-add 2 (8 * k) 8)
 
+-- a packet of L bits is below x^L
+pub polynomial-below : (s : List ℕ) → Bytes s → polynomial s < 2 ^ bits s
+polynomial-below s b = rw (← byte-power (length s)) (polynomial-lt s b)
+
 -- ---- one position
 
 -- the byte of a position, and how many bytes stand behind it

@@ -2,7 +2,7 @@
 use mathlib.Core.Path.{_≡_, sym, ap, ap₂, _∙_}
 use mathlib.Core.Bool.{false}
 use mathlib.Core.List.{List}
-use Prim.Native.Nat.{ℕ, _+_, _-_, _*_, _^_, _<_, _≤_}
+use Prim.Native.Nat.{ℕ, _+_, _-_, _*_, _^_}
 use native.Mathlib.Omega.{arith}
 use native.Mathlib.Nat.{zero-mul, mul-assoc}
 use lib.Bits.{bitXor, xor-zero-r, xor-shifted}
@@ -17,7 +17,7 @@ use Rattle.packet.specs.Packet.{Bytes, bits, polynomial, polynomialAfter
 use Rattle.packet.specs.Reading.{Readable}
 use Rattle.packet.specs.declared.Crc.{Crc}
 use Rattle.packet.proofs.PacketLaws.{fit-length, fit-values}
-use Rattle.packet.proofs.FlipLaws.{after-is, byte-power, polynomial-lt}
+use Rattle.packet.proofs.FlipLaws.{after-is, byte-power, polynomial-below}
 
 -- what is added cancels in the sum of two packets of one length
 pub read-sum : (c : Crc) (s t : List ℕ) → length t ≡ length s → bitXor (asRead c s) (asRead c t) ≡ bitXor (polynomial s) (polynomial t)
@@ -32,9 +32,9 @@ read-plain c s i f = rw (i, f) (simp (zero-mul, xor-zero-r))
 -- where conditions 1, 2 and 11 do not apply, a packet can be read
 pub fit-readable : (g i f : ℕ) (s : List ℕ) → unfit g ≡ false → unfitLength (degree g) (bits s) ≡ false → unfitValues (degree g) i f ≡ false
     → Readable (crcOf g i f) s
-fit-readable g i f s generator length values =
+fit-readable g i f s generator long values =
     let small = fit-values (degree g) i f values in
-    record { fit = fit-accepted g generator; init = small .0; xorout = small .1; long = omega (arith, fit-length (degree g) (bits s) length .0) }
+    record { fit = fit-accepted g generator; init = small .0; xorout = small .1; long = omega (arith, fit-length (degree g) (bits s) long .0) }
 
 -- a register in front of the packet, of which x^n times leaves the initial value, stands for that value in the first n bits
 pub register-reads : (c : Crc) (s : List ℕ) (v : ℕ) → Readable c s → Bytes s
@@ -48,7 +48,6 @@ register-reads c s v r b e =
     let high = r .fit .divisor .high in
     let k : ℕ = bits s - n in
     let places : bits s ≡ n + k = omega (arith, r .long) in
-    let small : polynomial s < 2 ^ bits s = rw (← byte-power (length s)) (polynomial-lt s b) in
     let top : rem n g (v * 2 ^ bits s) ≡ rem n g (c .init * 2 ^ k) =
     ap (λ (x : ℕ). rem n g (v * x)) (ap (λ (x : ℕ). 2 ^ x) places ∙ pow-add 2 n k)
     ∙ ap (rem n g) (sym (mul-assoc v (2 ^ n) (2 ^ k)))
@@ -57,7 +56,7 @@ register-reads c s v r b e =
     let whole : polynomialAfter v s ≡ bitXor (v * 2 ^ bits s) (polynomial s) =
     after-is v s
     ∙ ap (λ (x : ℕ). v * x + polynomial s) (byte-power (length s))
-    ∙ sym (xor-shifted v (bits s) (polynomial s) small) in
+    ∙ sym (xor-shifted v (bits s) (polynomial s) (polynomial-below s b)) in
     ap₂ bitXor (ap (rem n g) whole ∙ rem-xor n g low high (v * 2 ^ bits s) (polynomial s) ∙ ap (λ (x : ℕ). bitXor x (rem n g (polynomial s))) top) (sym (rem-small n g (c .xorout) (r .xorout)))
     ∙ sym
     (rem-xor n g low high (bitXor (polynomial s) (c .init * 2 ^ k)) (c .xorout)

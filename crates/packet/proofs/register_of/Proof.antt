@@ -1,10 +1,9 @@
 -- `register_of` undoes n multiplications by x. Invariant: x^i times r leaves the initial value, and r is a remainder.
 use mathlib.Core.Path.{_≡_, sym, ap, _∙_}
-use Prim.Native.Nat.{ℕ, suc, _+_, _-_, _*_, _^_, _<_, _≤_}
+use Prim.Native.Nat.{ℕ, _+_, _-_, _*_, _^_, _<_, _≤_}
 use native.Mathlib.Omega.{arith}
 use native.Mathlib.Nat.{mul-assoc}
 use native.Mathlib.Numerals.{add-one}
-use lib.Pow.{pow-add}
 use Rattle.poly.specs.Polynomial.{rem}
 use Rattle.poly.proofs.DivisionLaws.{rem-small, rem-shift}
 use Rattle.packet.proofs.register_of.Statement.{statement}

@@ -1,7 +1,6 @@
 -- `over_x` halves what is even, and what is odd with the generator added: the law of `back`.
 use Prim.Native.Nat.{_%_, _/_}
 use native.Mathlib.Omega.{arith}
-use borrow.Author.Needs.{needs}
 use Rattle.poly.proofs.ProductLaws.{digit-times}
 use Rattle.poly.proofs.GeneratorLaws.{fit-small}
 use Rattle.poly.proofs.BackLaws.{back, back-lt, back-leaves}
