@@ -87,20 +87,36 @@
  * The highest bit comes first, and nothing is reflected. The register starts at
  * the initial value, and the final value is added to it at the end ("init" and
  * "xorout" of the catalogues): the remainder of a message and n zero bits is
- * its CRC, and that of a message and its CRC is 0. With both values 0 every
- * call answers as it did before it took them.
+ * its CRC, and that of a message and its CRC is 0. With 0 and 0 it is division
+ * by the generator alone.
  *
- * The CRCs of the catalogues that are so have names below. Such a name stands
- * for three arguments, generator, initial and final:
+ * CRCs of the catalogues have names below. Such a name stands for three
+ * arguments, generator, initial and final:
  *
  *   rangqoda_seal(RANGQODA_CRC_16_IBM_3740, packet, packet_len)
+ *   rangqoda_seal(RANGQODA_CCITT, 0xFFFF, 0, packet, packet_len)
  *
- * Of those that go by "CCITT" and have the generator RANGQODA_CCITT,
+ * are the same. It is no expression: it cannot be chosen by ?:, assigned, or
+ * handed on through a second macro. RANGQODA_GENERATOR_OF(name) is its
+ * generator alone, for the calls that take no values: tables, patterns and
+ * pages belong to the generator.
+ *
  * CRC-16/XMODEM, CRC-16/IBM-3740 ("CCITT-FALSE"), CRC-16/GENIBUS and
- * CRC-16/SPI-FUJITSU are among them; CRC-16/KERMIT ("CCITT-TRUE") and
- * CRC-16/IBM-SDLC (X.25) are reflected, and these calls are not for them. A
- * packet that was sealed by another CRC than the one passed has some other
- * remainder, and would be taken for damaged.
+ * CRC-16/SPI-FUJITSU share the generator RANGQODA_CCITT. CRC-16/KERMIT
+ * ("CCITT-TRUE") and CRC-16/IBM-SDLC (X.25) have it too, but are reflected:
+ * these calls are not for them.
+ *
+ * Make sure of the CRC that sealed the packets. With the right generator and a
+ * wrong value all intact packets of one length leave the same remainder, and
+ * where a pattern explains it up to all of them may be repaired, to other
+ * data too: of packets of 16 bytes sealed by CRC-16/CMS and taken for
+ * CRC-16/UMTS at N = 2, half were. Where no packet is intact, suspect the CRC.
+ *
+ * A packet is whole bytes, and its message is its first L - n bits. Where n is
+ * not a multiple of 8 that is no whole number of bytes. To a message of whole
+ * bytes, then, k = 8 - n % 8 zero bits are put in front, and the initial value
+ * passed is the one got from its own by k times initial = step[initial]; 0
+ * stays 0. The checks with tests/crc-check-values.tsv do so.
  *
  *
  * What a repair does not tell
@@ -188,6 +204,8 @@ extern "C" {
 #define RANGQODA_CCITT 0x11021u   /* x^16 + x^12 + x^5 + 1 */
 
 /* CRCs by the catalogues' names: generator, initial and final value. */
+#define RANGQODA_FIRST_OF_THREE(generator, initial, final) (generator)
+#define RANGQODA_GENERATOR_OF(crc) RANGQODA_FIRST_OF_THREE(crc)
 #define RANGQODA_CRC_3_GSM             0xBu, 0x0u, 0x7u
 #define RANGQODA_CRC_4_INTERLAKEN      0x13u, 0xFu, 0xFu
 #define RANGQODA_CRC_5_EPC_C1G2        0x29u, 0x09u, 0x00u
@@ -282,15 +300,16 @@ extern "C" {
  *
  * Refused by 1, 2, 11. Writes *remainder, below 2^n.
  */
-uint32_t rangqoda_remainder(uint64_t generator, uint64_t initial, uint64_t final,
+uint32_t rangqoda_remainder(uint64_t generator,
+                            uint64_t initial, uint64_t final,
                             const uint8_t *packet, size_t packet_len,
                             uint64_t *remainder);
 
 /*
  * Seals a packet: sets its last n bits so that its remainder is 0.
  *
- * Refused by 1, 2, 11. Changes no other bit of the packet, and none at all where
- * the remainder is 0 already.
+ * Refused by 1, 2, 11. Changes no other bit of the packet, and none at all
+ * where the remainder is 0 already.
  */
 uint32_t rangqoda_seal(uint64_t generator, uint64_t initial, uint64_t final,
                        uint8_t *packet, size_t packet_len);

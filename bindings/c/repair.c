@@ -10,6 +10,7 @@
 
 #include <stdio.h>
 
+#define CRC RANGQODA_CRC_16_XMODEM
 #define ENTRIES 65536 /* 2^16, since the generator's degree is 16 */
 #define LIMIT 2       /* bit errors; see "What a repair does not tell" in rangqoda.h */
 
@@ -34,8 +35,8 @@ int main(int argc, char **argv)
     fclose(file);
 
     /* These numbers fit, so this is not refused; and an unfit length is refused below. */
-    rangqoda_tables(RANGQODA_CCITT, step, ENTRIES, first, ENTRIES, &period);
-    uint32_t refused = rangqoda_repair(RANGQODA_CRC_16_XMODEM, 0, len - 2, LIMIT, step, ENTRIES, first, ENTRIES,
+    rangqoda_tables(RANGQODA_GENERATOR_OF(CRC), step, ENTRIES, first, ENTRIES, &period);
+    uint32_t refused = rangqoda_repair(CRC, 0, len - 2, LIMIT, step, ENTRIES, first, ENTRIES,
                                        packet, len, copy, len, verdict, sizeof verdict);
     if (refused) {
         fprintf(stderr, "refused %u\n", (unsigned)refused);

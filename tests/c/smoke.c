@@ -139,39 +139,97 @@ static void named(void)
     }
 }
 
-static void values(void)
+/* The remainder by the rule's words: the values XORed into the first and the last bits, then division bit by bit. */
+static uint64_t divided(uint64_t generator, unsigned n, uint64_t initial, uint64_t final, const uint8_t *packet, unsigned len)
 {
-    uint8_t packet[3] = { 0, 0, 0 }, verdict[RANGQODA_VERDICT_BYTES] = { 77 }, output[3] = { 1, 2, 3 };
-    uint64_t left = 77, period;
+    uint64_t rest = 0;
+
+    for (unsigned place = 0; place < 8 * len; place++) {
+        uint64_t bit = packet[place / 8] >> (7 - place % 8) & 1u;
+        if (place < n)
+            bit ^= initial >> (n - 1 - place) & 1u;
+        if (place + n >= 8 * len)
+            bit ^= final >> (8 * len - 1 - place) & 1u;
+        rest = rest << 1 | bit;
+        if (rest >> n)
+            rest ^= generator;
+    }
+    return rest;
+}
+
+/* Packets of less than 2n bits: every value of five in every packet of one byte, and some of degree 16 in three. */
+static void overlapping(void)
+{
+    uint64_t left = 77, wrong = 0;
+
+    for (unsigned k = 0; k < 32 * 32 * 256; k++) {
+        uint8_t packet[1] = { (uint8_t)k };
+        uint64_t initial = k >> 8 & 31, final = k >> 13, right = divided(RANGQODA_FIVE, 5, initial, final, packet, 1);
+        wrong += rangqoda_remainder(RANGQODA_FIVE, initial, final, packet, 1, &left) != 0 || left != right;
+        wrong += rangqoda_seal(RANGQODA_FIVE, initial, final, packet, 1) != 0 || packet[0] != ((uint8_t)k ^ right);
+    }
+    EXPECT(wrong == 0);
+    for (uint64_t k = 0; k < 100000; k++) {
+        uint64_t mixed = k * 0x9E3779B97F4A7C15u, initial = mixed >> 48, final = mixed >> 32 & 0xFFFF;
+        uint8_t packet[3] = { (uint8_t)(mixed >> 24), (uint8_t)(mixed >> 16), (uint8_t)(mixed >> 8) };
+        uint64_t right = divided(RANGQODA_CCITT, 16, initial, final, packet, 3);
+        wrong += rangqoda_remainder(RANGQODA_CCITT, initial, final, packet, 3, &left) != 0 || left != right;
+        wrong += rangqoda_seal(RANGQODA_CCITT, initial, final, packet, 3) != 0;
+        wrong += rangqoda_remainder(RANGQODA_CCITT, initial, final, packet, 3, &left) != 0 || left != 0;
+    }
+    EXPECT(wrong == 0);
+    EXPECT(rangqoda_remainder(RANGQODA_FIVE, 31, 0, (const uint8_t *)"", 1, &left) == RANGQODA_ACCEPTED && left == 25);
+    EXPECT(rangqoda_remainder(RANGQODA_FIVE, 0, 31, (const uint8_t *)"", 1, &left) == RANGQODA_ACCEPTED && left == 31);
+    EXPECT(rangqoda_remainder(RANGQODA_FIVE, 31, 31, (const uint8_t *)"", 1, &left) == RANGQODA_ACCEPTED && left == 6);
+}
+
+/* Condition 11 by either value, alone and beside each other condition: 1 and 2 come before it, the others after. */
+static void unfit_values(void)
+{
+    static const uint64_t unfit[][2] = { { 32, 0 }, { 0, 32 }, { (uint64_t)1 << 32, 0 }, { 0, (uint64_t)1 << 32 | 1 },
+                                         { UINT64_MAX, UINT64_MAX } };
+    static const unsigned others[] = { 0, 1, 2, 3, 5, 6, 8, 9 };
+    uint64_t period;
 
     EXPECT(rangqoda_tables(RANGQODA_FIVE, step, 32, first, 32, &period) == RANGQODA_ACCEPTED);
-    EXPECT(rangqoda_remainder(RANGQODA_FIVE, 32, 0, packet, 1, &left) == RANGQODA_REFUSED_VALUES);
-    EXPECT(rangqoda_remainder(RANGQODA_FIVE, 0, UINT64_MAX, packet, 1, &left) == RANGQODA_REFUSED_VALUES);
-    EXPECT(rangqoda_remainder(RANGQODA_FIVE, 32, 0, packet, 0, &left) == RANGQODA_REFUSED_LENGTH);
-    EXPECT(rangqoda_remainder(52, 32, 0, packet, 1, &left) == RANGQODA_REFUSED_GENERATOR);
-    EXPECT(rangqoda_seal(RANGQODA_FIVE, 0, 32, packet, 3) == RANGQODA_REFUSED_VALUES);
-    EXPECT(left == 77 && packet[2] == 0);
-    /* 11 before 3 */
-    EXPECT(rangqoda_repair(RANGQODA_FIVE, 0, 32, 0, 2, 5, step, 32, first, 32, packet, 3, output, 3, verdict,
-                           sizeof verdict) == RANGQODA_REFUSED_VALUES);
-    EXPECT(verdict[0] == 77 && output[0] == 1);
+    for (size_t k = 0; k < sizeof unfit / sizeof *unfit; k++) {
+        for (size_t m = 0; m < sizeof others / sizeof *others; m++) {
+            unsigned other = others[m], number = other == 1 || other == 2 ? other : RANGQODA_REFUSED_VALUES;
+            uint64_t generator = other == 1 ? 52 : RANGQODA_FIVE, left = 77;
+            uint8_t packet[3] = { 7, 7, 7 }, output[3] = { 1, 2, 3 }, verdict[RANGQODA_VERDICT_BYTES] = { 77 };
+            size_t len = other == 2 ? 0 : 3;
 
-    /* both values over the same bits */
-    EXPECT(rangqoda_remainder(RANGQODA_FIVE, 31, 0, packet, 1, &left) == RANGQODA_ACCEPTED && left == 25);
-    EXPECT(rangqoda_remainder(RANGQODA_FIVE, 0, 31, packet, 1, &left) == RANGQODA_ACCEPTED && left == 31);
-    EXPECT(rangqoda_remainder(RANGQODA_FIVE, 31, 31, packet, 1, &left) == RANGQODA_ACCEPTED && left == 6);
+            step[1] = other == 6 ? 0 : 26;
+            EXPECT(rangqoda_repair(generator, unfit[k][0], unfit[k][1], 0, other == 9 ? 3 : 2, other == 3 ? 5 : 1, step,
+                                   other == 5 ? 31 : 32, first, 32, packet, len, output, other == 8 ? 2 : len, verdict,
+                                   sizeof verdict) == number);
+            EXPECT(rangqoda_remainder(generator, unfit[k][0], unfit[k][1], packet, len, &left) == number);
+            EXPECT(rangqoda_seal(generator, unfit[k][0], unfit[k][1], packet, len) == number);
+            EXPECT(left == 77 && packet[2] == 7 && output[0] == 1 && verdict[0] == 77);
+        }
+    }
+    step[1] = 26;
+}
 
-    /* sealed by these values it is intact, with a flip it is repaired, and for other values it is not intact */
-    packet[0] = packet[1] = 0xFF;
+/* Sealed by some values a packet is intact, with a flip it is repaired, and for other values it is not intact. */
+static void values(void)
+{
+    uint8_t packet[3] = { 0xFF, 0xFF, 0 }, verdict[RANGQODA_VERDICT_BYTES], output[3] = { 1, 2, 3 };
+    uint64_t period;
+
+    EXPECT(rangqoda_tables(RANGQODA_FIVE, step, 32, first, 32, &period) == RANGQODA_ACCEPTED);
     EXPECT(rangqoda_seal(RANGQODA_FIVE, 31, 9, packet, 3) == RANGQODA_ACCEPTED);
     EXPECT(rangqoda_repair(RANGQODA_FIVE, 31, 9, 0, 2, 1, step, 32, first, 32, packet, 3, output, 3, verdict,
-                           sizeof verdict) == RANGQODA_ACCEPTED && verdict[0] == RANGQODA_INTACT);
+                           sizeof verdict) == RANGQODA_ACCEPTED);
+    EXPECT(verdict[0] == RANGQODA_INTACT);
     EXPECT(rangqoda_repair(RANGQODA_FIVE, 0, 0, 0, 2, 1, step, 32, first, 32, packet, 3, output, 3, verdict,
-                           sizeof verdict) == RANGQODA_ACCEPTED && verdict[0] != RANGQODA_INTACT);
+                           sizeof verdict) == RANGQODA_ACCEPTED);
+    EXPECT(verdict[0] != RANGQODA_INTACT);
     packet[0] = 0x7F;
     EXPECT(rangqoda_repair(RANGQODA_FIVE, 31, 9, 0, 2, 1, step, 32, first, 32, packet, 3, output, 3, verdict,
-                           sizeof verdict) == RANGQODA_ACCEPTED && verdict[0] == RANGQODA_REPAIRED);
-    EXPECT(verdict[11] == 23 && output[0] == 0xFF && output[2] == packet[2]);
+                           sizeof verdict) == RANGQODA_ACCEPTED);
+    EXPECT(verdict[0] == RANGQODA_REPAIRED && verdict[11] == 23 && output[0] == 0xFF && output[2] == packet[2]);
+    EXPECT(RANGQODA_GENERATOR_OF(RANGQODA_CRC_16_GENIBUS) == RANGQODA_CCITT);
 }
 
 static void sum_and_stamp(void)
@@ -289,6 +347,8 @@ int main(void)
 {
     remainder_and_seal();
     named();
+    overlapping();
+    unfit_values();
     values();
     sum_and_stamp();
     tables();

@@ -1,5 +1,5 @@
-//! The CRCs that the catalogues of parametrised CRC algorithms name, as far as the calls cover them: degree 3 to 16, the
-//! highest bit first, nothing reflected. The names are those of the `crc` crate.
+//! CRCs that the catalogue of parametrised CRC algorithms names: degree 3 to 16, the highest bit first, nothing reflected. The
+//! names are those of the `crc` crate. [Which CRC this is](crate#which-crc-this-is) says how a packet is laid out for them.
 
 use crate::Crc;
 
@@ -7,7 +7,8 @@ use crate::Crc;
 macro_rules! catalogue {
     ($($name:ident $called:literal $generator:literal $init:literal $xorout:literal)*) => {
         $(
-            #[doc = concat!($called, ": generator ", stringify!($generator), ", initial value ", stringify!($init), ", final value ", stringify!($xorout), ".")]
+            #[doc = concat!($called, ": generator ", stringify!($generator), ",")]
+            #[doc = concat!("initial value ", stringify!($init), ", final value ", stringify!($xorout), ".")]
             pub const $name: Crc = Crc { generator: $generator, init: $init, xorout: $xorout };
         )*
 

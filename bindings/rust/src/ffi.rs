@@ -7,14 +7,14 @@
 extern "C" {
     pub fn rangqoda_remainder(
         generator: u64,
-        initial: u64,
-        final_: u64,
+        init: u64,
+        xorout: u64,
         packet: *const u8,
         packet_len: usize,
         remainder: *mut u64,
     ) -> u32;
 
-    pub fn rangqoda_seal(generator: u64, initial: u64, final_: u64, packet: *mut u8, packet_len: usize) -> u32;
+    pub fn rangqoda_seal(generator: u64, init: u64, xorout: u64, packet: *mut u8, packet_len: usize) -> u32;
 
     pub fn rangqoda_sum(bytes: *const u8, len: usize) -> u16;
 
@@ -55,8 +55,8 @@ extern "C" {
 
     pub fn rangqoda_repair(
         generator: u64,
-        initial: u64,
-        final_: u64,
+        init: u64,
+        xorout: u64,
         start: usize,
         end: usize,
         limit: usize,

@@ -28,10 +28,17 @@
 //! the end (`init` and `xorout` of the catalogues and of the `crc` crate). The highest bit comes first, and nothing is
 //! reflected. [`catalogue`] has those with names, such as [`catalogue::CRC_16_XMODEM`],
 //! [`catalogue::CRC_16_IBM_3740`] ("CCITT-FALSE") and [`catalogue::CRC_16_GENIBUS`], which share the generator [`CCITT`].
-//! CRC-16/KERMIT ("CCITT-TRUE") and CRC-16/IBM-SDLC (X.25) have it too and are reflected: these calls are not for them. A packet
-//! that was sealed by another CRC than the one named in the call has some other remainder and would be taken for damaged.
+//! CRC-16/KERMIT ("CCITT-TRUE") and CRC-16/IBM-SDLC (X.25) have it too and are reflected: these calls are not for them.
+//! [`Crc::plain`] has both values 0: division by the generator alone.
 //!
-//! [`Crc::plain`] is a generator with both values 0, for which every call answers as it did when it took a generator alone.
+//! Make sure of the CRC that sealed the packets. With the right generator and a wrong value all intact packets of one length
+//! leave the same remainder, and where a pattern explains it up to all of them may be repaired, to other data too: of packets
+//! of 16 bytes sealed by [`catalogue::CRC_16_CMS`] and taken for [`catalogue::CRC_16_UMTS`] at N = 2, half were. Where no packet
+//! is intact, suspect the CRC.
+//!
+//! A packet is whole bytes, and its message is its first L - n bits. Where n is not a multiple of 8 that is no whole number of
+//! bytes. To a message of whole bytes, then, k = 8 - n % 8 zero bits are put in front, and the initial value passed is the
+//! one got from its own by k times `init = step[init]`; 0 stays 0.
 //!
 //! # What a repair does not tell
 //!
@@ -109,7 +116,7 @@ pub const VERDICT_BYTES: usize = 9 + RECORD_BYTES;
 const MARK_START: u8 = 0xFE;
 const MARK_ENDED: u8 = 0xFF;
 
-/// What a CRC is taken by. It refuses nothing: the calls judge its numbers.
+/// The numbers that define a CRC. It refuses nothing: the calls judge them.
 ///
 /// ```
 /// use rangqoda::{catalogue::CRC_16_XMODEM, Crc, CCITT};
@@ -665,7 +672,7 @@ impl Tables {
         page(self.generator, length, limit, syndrome, self.as_slices(), mark, output)
     }
 
-    /// [`repair`] with these tables, which are those of the CRC's generator.
+    /// [`repair`] with these tables. They have to be those of the CRC's generator: others are refused by 5 or 6.
     pub fn repair(
         &self,
         crc: Crc,

@@ -355,10 +355,10 @@ fn remainder_of_every_short_packet() {
     }
 }
 
-/// All values, and all packets of one byte, in which both values stand over the same bits for degrees 5 to 7.
+/// All values and all packets of one byte; for degrees 5 and 6 both values reach the same bits there.
 #[test]
 fn every_initial_and_final_value_of_small_degrees() {
-    for generator in [9, 19, 53] {
+    for generator in [9, 19, 53, 0x43] {
         let bound = 1 << reference::degree(generator);
         for (init, xorout) in (0..bound).flat_map(|init| (0..bound).map(move |xorout| (init, xorout))) {
             let crc = Crc { generator, init, xorout };

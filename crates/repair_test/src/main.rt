@@ -2,9 +2,9 @@
 //
 // The input: the number of groups. A group: the generator and the size of the tables to build, a change (0 steps, 1 firsts;
 // the place; what is XORed in), how many entries of each are lent, and the number of its cases. A case: generator, initial
-// and final value, range and limit of the calls, the packet's length and its bytes as testkit::read_packet takes them, the room for the output, a first
-// position, and how many from there on are flipped in turn, each alone, after a call with none. All numbers of a call are given
-// by their high and low 32 bits.
+// and final value, range and limit of the calls, the packet's length and its bytes as testkit::read_packet takes them, the
+// room for the output, a first position, and how many from there on are flipped in turn, each alone, after a call with none.
+// The numbers of a call are given by their high and low 32 bits.
 use checksum::Check;
 use libc::STDIN_FILENO;
 use packet::RemainderAnswer;

@@ -121,7 +121,7 @@ pub const UNFIT_GENERATORS: [u64; 16] = [
 /// The CRC with one of its values, or both, not below 2^n.
 pub fn unfit_values(random: &mut Random, crc: Crc) -> Crc {
     let bound = 1 << crc.generator.ilog2();
-    let mut unfit = || random.pick(&[bound, bound + 1, 2 * bound, 1 << 32, 1 << 32 | 1, 1 << 63, u64::MAX]);
+    let mut unfit = || random.pick(&[bound, bound | 1, bound | bound << 1, 1 << 32, 1 << 32 | 1, 1 << 63, u64::MAX]);
     let (init, xorout) = (unfit(), unfit());
     match random.below(3) {
         0 => Crc { init, ..crc },
