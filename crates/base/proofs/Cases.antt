@@ -1,7 +1,7 @@
 -- Ways to go by cases that keep the equation or the order found, and the tests as rules.
 use mathlib.Core.Path.{_≡_, refl, sym, _∙_}
 use mathlib.Core.Bool.{Bool, true, false}
-use Prim.Native.Nat.{ℕ, _<_, _≤_}
+use Prim.Native.Nat.{ℕ, _%_, _<_, _≤_}
 use native.Mathlib.Omega.{arith}
 use native.Mathlib.Decide.{decLt, ℕ-discrete}
 use lib.Dec.{ltb}
@@ -19,6 +19,9 @@ by-order a b f g = elim (decLt a b) [ yes h ↦ f h | no h ↦ g (omega arith) ]
 
 pub by-equal {ℓ} : {C : Type ℓ} (a b : ℕ) → (a ≡ b → C) → ((a ≡ b → ⊥) → C) → C
 by-equal a b f g = elim (ℕ-discrete a b) [ yes h ↦ f h | no h ↦ g h ]
+
+pub by-parity {ℓ} : {C : Type ℓ} (a : ℕ) → (a % 2 ≡ 0 → C) → (a % 2 ≡ 1 → C) → C
+by-parity a f g = by-equal (a % 2) 0 f (λ h. g (omega arith))
 
 -- two comparisons that hold together
 pub ltb-same : (a b c d : ℕ) → (a < b → c < d) → (c < d → a < b) → ltb a b ≡ ltb c d

@@ -136,7 +136,7 @@ fn register_of(g: Generator, init: u64) -> u64
     let mut r = init;
     let mut i: u32 = 0;
     while i < g.degree {
-        r = poly::over_x(g, r);
+        r = poly::back(g, r);
         i += 1;
     }
     r

@@ -5,7 +5,7 @@ use native.Mathlib.Omega.{arith}
 use native.Mathlib.Nat.{zero-mul, one-mul, div-eq-of-lt, div-eq-of-lt-le, le-div-iff-mul-le}
 use lib.Pow.{pow-pos}
 use lib.Bits.{bitXor, differ, xor-zero-l, xor-zero-r, xor-lt, xor-shr}
-use Rattle.base.proofs.Cases.{by-order, by-equal}
+use Rattle.base.proofs.Cases.{by-order, by-parity}
 use Rattle.base.proofs.XorLaws.{xor-half, xor-low, xor-ac}
 use Rattle.poly.specs.Polynomial.{rem, reduce}
 use Rattle.poly.specs.Fit.{Divisor}
@@ -22,9 +22,6 @@ back-even g s e = simp (e, zero-mul, xor-zero-r)
 pub back-odd : (g s : ℕ) → s % 2 ≡ 1 → back g s ≡ bitXor s g / 2
 unfolding back
 back-odd g s o = simp (o, one-mul) (sym (xor-half s g))
-
-pub by-parity {ℓ} : {C : Type ℓ} (s : ℕ) → (s % 2 ≡ 0 → C) → (s % 2 ≡ 1 → C) → C
-by-parity s f g = by-equal (s % 2) 0 f (λ ne. g (omega arith))
 
 module _ (n g : ℕ) (d : Divisor n g) where
   -- x times a remainder, as a remainder

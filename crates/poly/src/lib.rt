@@ -97,7 +97,7 @@ pub fn times_x(g: Generator, t: u64) -> u64
 }
 
 // The remainder that times x leaves `t`.
-pub fn over_x(g: Generator, t: u64) -> u64
+pub fn back(g: Generator, t: u64) -> u64
     requires { ⌜ Fit g × (t < 2 ^ g .degree) ⌝ }
     ensures { λ r. ⌜ (r < 2 ^ g .degree) × (rem (g .degree) (g .coefficients) (r * 2) ≡ t) ⌝ }
 {

@@ -10,10 +10,10 @@ use native.Mathlib.Nat.{one-mul}
 use lib.Bits.{bitXor}
 use lib.ListN.{length, getD}
 use lib.Pow.{pow-mono, pow-pos}
-use Rattle.base.proofs.Cases.{by-order, by-equal}
+use Rattle.base.proofs.Cases.{by-order, by-equal, by-parity}
 use Rattle.poly.specs.Polynomial.{reduce}
 use Rattle.poly.specs.Fit.{Divisor}
-use Rattle.poly.proofs.BackLaws.{by-parity, rem-twice}
+use Rattle.poly.proofs.BackLaws.{rem-twice}
 use Rattle.tables.specs.Tables.{entryBits, power, step, first, period, stepTable, firstTable}
 use Rattle.tables.specs.Rule.{later, EvenRuled, OddRuled}
 use Rattle.tables.proofs.StepLaws.{step-is, step-halves, step-inverts}

@@ -3,8 +3,7 @@ use base::Judgement;
 use base::Refusal;
 use poly::Generator;
 ghost use mathlib.Core.Path.{_≡_};
-ghost use Prim.Native.Nat.{_*_, _/_, _%_, _^_};
-ghost use lib.Bits.{bitXor};
+ghost use Prim.Native.Nat.{_/_, _^_};
 ghost use lib.Dec.{eqb};
 ghost use lib.ListN.{length, replicate};
 ghost use mathlib.Core.Logic.{_↔_};
@@ -35,21 +34,13 @@ pub enum TablesAnswer {
 // The entry of a remainder that no power of x leaves.
 const ABSENT: u16 = 65535;
 
-// The remainder that times x leaves `s`; `half` is the generator's half.
-fn back(half: u16, s: u16) -> u16
-    ensures { λ r. ⌜ r ≡ bitXor (s / 2) (s % 2 * half) ⌝ }
-{
-    (s / 2) ^ (s % 2 * half)
-}
-
 fn fill_steps(g: Generator, steps: &mut [u16])
     requires { ⌜ Lent g (now steps) ⌝ }
     ensures { λ _. ⌜ now (steps .exit) ≡ stepTable (g .degree) (g .coefficients) ⌝ }
 {
-    let half = (g.coefficients / 2) as u16;
     let mut s: usize = 0;
     while s < steps.len() {
-        steps[s] = back(half, s as u16);
+        steps[s] = poly::back(g, s as u64) as u16;
         s += 1;
     }
 }

@@ -28,15 +28,15 @@ loop-again c =
     let n : ℕ = s .args .g .degree in
     let g : ℕ = s .args .g .coefficients in
     let i : ℕ = l .loop .i in
-    let t : ℕ = c .over-x .result in
+    let t : ℕ = c .back .result in
     let d = s .pre .0 .divisor in
     let power : 2 ^ (i + 1) ≡ 2 * 2 ^ i = ap (λ (x : ℕ). 2 ^ x) (add-one i) ∙ omega arith in (
       omega arith,
-      c .over-x .ensures .0,
+      c .back .ensures .0,
       ap (λ (x : ℕ). rem n g (t * x)) power
           ∙ ap (rem n g) (sym (mul-assoc t 2 (2 ^ i)))
           ∙ rem-shift n g (d .low) (d .high) i (t * 2)
-          ∙ ap (λ (x : ℕ). rem n g (x * 2 ^ i)) (c .over-x .ensures .1)
+          ∙ ap (λ (x : ℕ). rem n g (x * 2 ^ i)) (c .back .ensures .1)
           ∙ l .loop .inv .2,
     )
 

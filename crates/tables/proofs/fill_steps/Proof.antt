@@ -1,49 +1,50 @@
--- `fill_steps` stores the step table. The invariant: the entries before s are the halves that StepLaws gives for the step.
-use mathlib.Core.Path.{_≡_, refl, sym, _∙_}
-use Prim.Native.Nat.{ℕ, _-_, _*_, _/_, _%_, _≤_, _<_}
+-- `fill_steps` stores the step table. The invariant: the entries before s are steps.
+use mathlib.Core.Path.{_≡_, refl, _∙_}
+use Prim.Native.Nat.{ℕ, _-_, _≤_, _<_}
 use native.Mathlib.Omega.{arith}
-use borrow.Author.Needs.{needs}
-use lib.Bits.{bitXor}
 use lib.ListN.{length, getD, length-set}
-use Rattle.tables.proofs.StepLaws.{step-halves}
 use Rattle.poly.proofs.GeneratorLaws.{fit-small}
+use Rattle.tables.specs.Tables.{step}
+use Rattle.tables.proofs.StepLaws.{step-inverts}
 use Rattle.tables.proofs.TableLaws.{entries-more, stepTable-by-entries}
 use Rattle.tables.proofs.fill_steps.Statement.{statement}
 use Rattle.tables.proofs.fill_steps.Tie as tie
 
 abbrev Inv-loop : tie.InvT-loop
-Inv-loop steps₀ half s₀ steps s =
-    (s ≤ length steps₀) × (length steps ≡ length steps₀) × ((k : ℕ) → k < s → getD steps k 0 ≡ bitXor (k / 2) (k % 2 * half))
+Inv-loop g steps₀ s₀ steps s =
+    (s ≤ length steps₀) × (length steps ≡ length steps₀) × ((k : ℕ) → k < s → getD steps k 0 ≡ step (g .degree) (g .coefficients) k)
 
 abbrev μ-loop : tie.MeasureT-loop
-μ-loop steps₀ half s₀ steps s = length steps₀ - s
-
-cast-half : tie.Need-cast-half Inv-loop μ-loop
-cast-half c = record { fits = fit-small _ (c .before .before .pre .fit) .half }
+μ-loop g steps₀ s₀ steps s = length steps₀ - s
 
 loop-holds : tie.Need-loop-holds Inv-loop μ-loop
 loop-holds c = (omega arith, refl, λ k h. absurd (omega arith))
 
-cast-back : tie.Need-cast-back Inv-loop μ-loop
-cast-back c = omega (arith, fit-small _ (c .before .before .before .before .pre .fit))
+back-requires : tie.Need-back-requires Inv-loop μ-loop
+back-requires c κs = let e = c .before .before .before in (e .pre .fit, omega (arith, e .pre .full))
+
+cast-steps : tie.Need-cast-steps Inv-loop μ-loop
+cast-steps c = omega (arith, c .back .ensures .0, fit-small _ (c .before .before .before .before .pre .fit))
 
 loop-again : tie.Need-loop-again Inv-loop μ-loop
 loop-again c =
-    let l = c .before .before .loop .steps in
-    let s = c .before .before .loop .s in
-    let half = c .before .before .before .before .before .args .g .coefficients / 2 in (
+    let l = c .before .before .loop in
+    let e = c .before .before .before .before in
+    let n = e .args .g .degree in
+    let g = e .args .g .coefficients in
+    let r = c .back .result in
+    let b = c .back .ensures in (
       omega arith,
-      length-set l s (c .back .result) ∙ c .before .before .loop .inv .1,
-      entries-more (λ k. bitXor (k / 2) (k % 2 * half)) l s (c .back .result) (omega arith) (c .before .before .loop .inv .2) (c .back .ensures),
+      length-set (l .steps) (l .s) r ∙ l .inv .1,
+      entries-more (step n g) (l .steps) (l .s) r (omega arith) (l .inv .2)
+          (step-inverts n g (e .pre .fit .divisor) (l .s) (omega (arith, e .pre .full)) .only r (b .0) (b .1)),
     )
 
 returns : tie.Need-returns Inv-loop μ-loop
 returns c =
-    let e = c .before .before .before .before in
-    let n = e .args .g .degree in
-    let g = e .args .g .coefficients in
-    stepTable-by-entries n g (c .before .loop .steps) (c .before .loop .inv .1 ∙ e .pre .full)
-    (λ s b. c .before .loop .inv .2 s (omega arith) ∙ sym (step-halves n g (e .pre .fit .divisor) s b))
+    let e = c .before .before .before in
+    stepTable-by-entries (e .args .g .degree) (e .args .g .coefficients) (c .before .loop .steps) (c .before .loop .inv .1 ∙ e .pre .full)
+    (λ s b. c .before .loop .inv .2 s (omega arith))
 
 pub fill-steps-spec : {M : Type 1} → statement M
 fill-steps-spec =
@@ -51,10 +52,9 @@ fill-steps-spec =
     (tie.spec
     Inv-loop
     μ-loop
-    cast-half
     loop-holds
-    cast-back
-    (λ c κs. search needs)
+    back-requires
+    cast-steps
     (λ c. omega arith)
     (λ c. omega arith)
     (λ c. omega arith)

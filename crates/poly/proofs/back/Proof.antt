@@ -1,11 +1,11 @@
--- `over_x` halves what is even, and what is odd with the generator added: the law of `back`.
+-- `back` halves what is even, and what is odd with the generator added, as its law has it.
 use Prim.Native.Nat.{_%_, _/_}
 use native.Mathlib.Omega.{arith}
 use Rattle.poly.proofs.ProductLaws.{digit-times}
 use Rattle.poly.proofs.GeneratorLaws.{fit-small}
 use Rattle.poly.proofs.BackLaws.{back, back-lt, back-leaves}
-use Rattle.poly.proofs.over_x.Statement.{statement}
-use Rattle.poly.proofs.over_x.Tie as tie
+use Rattle.poly.proofs.back.Statement.{statement}
+use Rattle.poly.proofs.back.Tie as tie
 
 mul-result : tie.Need-mul-result
 mul-result c =
@@ -19,5 +19,5 @@ returns c =
     let d = c .before .pre .0 .divisor in
     (back-lt (a .g .degree) (a .g .coefficients) d (a .t) (c .before .pre .1), back-leaves (a .g .degree) (a .g .coefficients) d (a .t) (c .before .pre .1))
 
-pub over-x-spec : {M : Type 1} → statement M
-over-x-spec = tie.close (tie.spec mul-result returns)
+pub back-spec : {M : Type 1} → statement M
+back-spec = tie.close (tie.spec mul-result returns)
