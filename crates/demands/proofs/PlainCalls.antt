@@ -13,7 +13,7 @@ use Rattle.packet.specs.declared.Crc.{Crc}
 use Rattle.packet.proofs.ReadLaws.{read-plain}
 use Rattle.repair.specs.Verdicts.{passesBoth, candidates}
 use Rattle.repair.specs.Calls.{Repair, repairCall, repairOutput}
-use Rattle.demands.specs.Plain.{plainRemainder, plainRemainderCall, plainSealCall, plainSealPacket, plainRepairCall, plainRepairOutput}
+use Rattle.demands.specs.Plain.{plainRemainder, plainRemainderCall, plainSealCall, plainSealPacket, plainCandidates, plainRepairCall, plainRepairOutput}
 
 module _ (c : Crc) (i : c .init ≡ 0) (f : c .xorout ≡ 0) where
   zeros-fit : unfitValues (c .generator .degree) (c .init) (c .xorout) ≡ false
@@ -24,17 +24,20 @@ module _ (c : Crc) (i : c .init ≡ 0) (f : c .xorout ≡ 0) where
   unfolding remainder
   same-remainder s = ap (rem (c .generator .degree) (c .generator .coefficients)) (read-plain c s i f)
 
-  pub plain-remainder : (s : List ℕ) → remainderCall c s ≡ plainRemainderCall (c .generator) s
+  pub plain-remainder : (s : List ℕ) → remainderCall c s ≡ plainRemainderCall c s
   plain-remainder s = rw (zeros-fit, same-remainder s)
 
-  pub plain-seal : (s : List ℕ) → (sealCall c s ≡ plainSealCall (c .generator) s) × (sealPacket c s ≡ plainSealPacket (c .generator) s)
+  pub plain-seal : (s : List ℕ) → (sealCall c s ≡ plainSealCall c s) × (sealPacket c s ≡ plainSealPacket c s)
   unfolding sealed
   plain-seal s = (rw zeros-fit, rw (zeros-fit, same-remainder s))
 
+-- the answer for any pattern named, the output, and the patterns that Several may name
 pub plain-repair : (r : Repair) → r .crc .init ≡ 0 → r .crc .xorout ≡ 0
-    → ((named : List ℕ) → repairCall r named ≡ plainRepairCall r named) × (repairOutput r ≡ plainRepairOutput r)
+    → ((named : List ℕ) → repairCall r named ≡ plainRepairCall r named)
+    × (repairOutput r ≡ plainRepairOutput r)
+    × (candidates (r .crc) (r .check) (r .limit) (r .packet) ≡ plainCandidates r)
 unfolding passesBoth candidates
 plain-repair r i f =
     let e = same-remainder (r .crc) i f (r .packet) in
     let z = zeros-fit (r .crc) i f in
-    (λ named. rw (z, e), rw (z, e))
+    (λ named. rw (z, e), rw (z, e), rw e)

@@ -13,6 +13,7 @@ use Rattle.base.proofs.XorLaws.{xor-bit}
 use Rattle.packet.specs.Packet.{Bytes, bits, polynomial, asRead}
 use Rattle.packet.specs.Reading.{Readable}
 use Rattle.packet.specs.declared.Crc.{Crc}
+use Rattle.packet.proofs.ReadLaws.{read-at}
 use Rattle.packet.proofs.FlipLaws.{polynomial-below, bit-coefficient}
 use Rattle.demands.specs.Demand2.{bitFrom, Reads}
 
@@ -40,19 +41,19 @@ shifted-bit v from p =
     rw t (ap (λ (x : ℕ). x % 2) bit))
 
 pub bits-read : (c : Crc) (s : List ℕ) → Readable c s → Bytes s → Reads c s (asRead c s)
-unfolding asRead
 bits-read c s r b =
     let n : ℕ = c .generator .degree in
     let k : ℕ = bits s - n in
-    let places : n + k ≡ bits s = omega (arith, r .long) in
-    let high : c .init * 2 ^ k < 2 ^ bits s = subst (λ (x : ℕ). c .init * 2 ^ k < 2 ^ x) places (shl-lt n k (r .init)) in
+    let places : bits s ≡ n + k = omega (arith, r .long) in
+    let high : c .init * 2 ^ k < 2 ^ bits s = subst (λ (x : ℕ). c .init * 2 ^ k < 2 ^ x) (sym places) (shl-lt n k (r .init)) in
     let low : c .xorout < 2 ^ bits s = omega (arith, r .xorout, pow-mono (r .long)) in
     let once : c .xorout * 1 ≡ c .xorout = omega arith in
-    record {
+    rw (read-at c s k places)
+    (record {
       below = xor-lt (bits s) (bitXor (polynomial s) (c .init * 2 ^ k)) (c .xorout) (xor-lt (bits s) (polynomial s) (c .init * 2 ^ k) (polynomial-below s b) high) low;
       bit = λ p h.
           xor-bit (bitXor (polynomial s) (c .init * 2 ^ k)) (c .xorout) p
           ∙ ap₂ differ
           (xor-bit (polynomial s) (c .init * 2 ^ k) p ∙ ap₂ differ (sym (bit-coefficient s p h b)) (shifted-bit (c .init) k p))
           (ap (λ (x : ℕ). x / 2 ^ p % 2) (sym once) ∙ shifted-bit (c .xorout) 0 p);
-    }
+    })

@@ -28,4 +28,5 @@ worked-rows =
       row13 = (λ named. refl, λ named. refl);
       row14 = (refl, refl, refl);
       row15 = (refl, refl, refl);
+      row16 = refl;
     }

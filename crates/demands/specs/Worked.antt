@@ -62,3 +62,5 @@ pub record Worked : Type 0 where
   -- ccitt, the nine bytes of check values and two of zero: I FFFFh, F 0; both FFFFh; I 1D0Fh, F 0: 29B1h; D64Eh; E5CCh
   pub row15 : (remainder (crcOf 0x11021 0xFFFF 0) checked ≡ 0x29B1) × (remainder (crcOf 0x11021 0xFFFF 0xFFFF) checked ≡ 0xD64E)
       × (remainder (crcOf 0x11021 0x1D0F 0) checked ≡ 0xE5CC)
+  -- ccitt, 41 00 00, both FFFFh: 46EAh
+  pub row16 : remainder (crcOf 0x11021 0xFFFF 0xFFFF) (0x41 ∷ 0 ∷ 0 ∷ []) ≡ 0x46EA

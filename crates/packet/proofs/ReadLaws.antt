@@ -19,10 +19,19 @@ use Rattle.packet.specs.declared.Crc.{Crc}
 use Rattle.packet.proofs.PacketLaws.{fit-length, fit-values}
 use Rattle.packet.proofs.FlipLaws.{after-is, byte-power, polynomial-below}
 
+-- by the places of both values: the initial value stands above the L - n bits behind it
+pub read-at : (c : Crc) (s : List ℕ) (k : ℕ) → bits s ≡ c .generator .degree + k
+    → asRead c s ≡ bitXor (bitXor (polynomial s) (c .init * 2 ^ k)) (c .xorout)
+unfolding asRead
+read-at c s k e = ap₂ (λ (x y : ℕ). bitXor (bitXor (polynomial s) (c .init * 2 ^ x)) y) (omega arith) (omega arith)
+
+added-cancels : (p q a b : ℕ) → bitXor (bitXor (bitXor p a) b) (bitXor (bitXor q a) b) ≡ bitXor p q
+added-cancels p q a b = simp xor-ac
+
 -- what is added cancels in the sum of two packets of one length
 pub read-sum : (c : Crc) (s t : List ℕ) → length t ≡ length s → bitXor (asRead c s) (asRead c t) ≡ bitXor (polynomial s) (polynomial t)
 unfolding asRead
-read-sum c s t l = rw l (simp xor-ac)
+read-sum c s t l = rw l (added-cancels (polynomial s) (polynomial t) _ _)
 
 -- with initial and final values 0 nothing is added
 pub read-plain : (c : Crc) (s : List ℕ) → c .init ≡ 0 → c .xorout ≡ 0 → asRead c s ≡ polynomial s
@@ -40,7 +49,7 @@ fit-readable g i f s generator long values =
 pub register-reads : (c : Crc) (s : List ℕ) (v : ℕ) → Readable c s → Bytes s
     → rem (c .generator .degree) (c .generator .coefficients) (v * 2 ^ c .generator .degree) ≡ c .init
     → bitXor (rem (c .generator .degree) (c .generator .coefficients) (polynomialAfter v s)) (c .xorout) ≡ remainder c s
-unfolding remainder asRead
+unfolding remainder
 register-reads c s v r b e =
     let n : ℕ = c .generator .degree in
     let g : ℕ = c .generator .coefficients in
@@ -59,6 +68,7 @@ register-reads c s v r b e =
     ∙ sym (xor-shifted v (bits s) (polynomial s) (polynomial-below s b)) in
     ap₂ bitXor (ap (rem n g) whole ∙ rem-xor n g low high (v * 2 ^ bits s) (polynomial s) ∙ ap (λ (x : ℕ). bitXor x (rem n g (polynomial s))) top) (sym (rem-small n g (c .xorout) (r .xorout)))
     ∙ sym
-    (rem-xor n g low high (bitXor (polynomial s) (c .init * 2 ^ k)) (c .xorout)
+    (ap (rem n g) (read-at c s k places)
+    ∙ rem-xor n g low high (bitXor (polynomial s) (c .init * 2 ^ k)) (c .xorout)
     ∙ ap (λ (x : ℕ). bitXor x (rem n g (c .xorout))) (rem-xor n g low high (polynomial s) (c .init * 2 ^ k))
     ∙ (simp xor-ac))

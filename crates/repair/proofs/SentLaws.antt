@@ -4,7 +4,7 @@
 -- Where the received packet itself passes both checks the verdict is intact, whatever was sent: that is neither none nor
 -- a repair, and the output then stays as it was.
 use mathlib.Core.Path.{_≡_, sym, ap, _∙_}
-use mathlib.Core.Bool.{Bool, true, false, _&&_, true≢false}
+use mathlib.Core.Bool.{Bool, true, _&&_, true≢false}
 use mathlib.Core.List.{List}
 use Prim.Native.Nat.{ℕ, _≤_}
 use borrow.Author.Tests.{eqb-true}
