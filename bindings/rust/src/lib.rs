@@ -204,7 +204,7 @@ impl fmt::Display for Refusal {
             Refusal::Mark => "the mark's pattern is unfit",
             Refusal::Output => "the output has an unfit length",
             Refusal::Range => "the range is empty or reaches into the CRC",
-            Refusal::Field => "the field is outside the range or at an odd distance from its start",
+            Refusal::Field => "the field is not whole in the range, or not an even number of bytes from its start",
             Refusal::Values => "the initial or the final value does not fit the degree",
         };
         write!(f, "refused {}: {}", self.number(), what)
@@ -650,7 +650,7 @@ impl Tables {
         self.generator
     }
 
-    /// The least c of at least 1 with x^c leaving remainder 1.
+    /// The smallest positive c such that x^c leaves 1.
     pub fn period(&self) -> u64 {
         self.period
     }
