@@ -1,4 +1,5 @@
--- What demand 2 says of what is read of a packet, of a remainder, of the entries of both tables and of the period, for a generator g of degree n.
+-- What demand 2 says of what is read of a packet, of a remainder, of the entries of both tables and of the period, for a
+-- generator g of degree n.
 use Prim.Native.Nat.{ℕ, _-_, _*_, _/_, _%_, _^_, _≤_, _<_}
 use mathlib.Core.Path.{_≡_}
 use mathlib.Core.Logic.{_↔_}
