@@ -116,7 +116,7 @@
  * not a multiple of 8 that is no whole number of bytes. To a message of whole
  * bytes, then, k = 8 - n % 8 zero bits are put in front, and the initial value
  * passed is the one got from its own by k times initial = step[initial]; 0
- * stays 0. The checks with tests/crc-check-values.tsv do so.
+ * stays 0.
  *
  *
  * What a repair does not tell
