@@ -366,15 +366,10 @@ pub fn repair(
     );
     match judged {
         Judgement::Refused(r) => RepairAnswer::Refused(r),
-        Judgement::Passed => RepairAnswer::Decided(conclude(
-            packet::crc_of(generator, init, xorout),
-            check,
-            limit,
-            steps,
-            firsts,
-            packet,
-            output,
-        )),
+        Judgement::Passed => {
+            let crc = packet::crc_of(generator, init, xorout);
+            RepairAnswer::Decided(conclude(crc, check, limit, steps, firsts, packet, output))
+        }
     }
 }
 
