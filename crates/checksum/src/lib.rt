@@ -202,7 +202,7 @@ pub fn unfit_range(g: Generator, len: usize, check: Check) -> bool
 }
 
 // Condition 10, for any numbers.
-fn unfit_field(check: Check, field: usize) -> bool
+pub fn unfit_field(check: Check, field: usize) -> bool
     ensures { λ r. ⌜ r ≡ unfitField check field ⌝ }
 {
     let from = check.from;
