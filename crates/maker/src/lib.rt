@@ -1,0 +1,109 @@
+// The packet maker: packets that anyone can make again from a few numbers.
+use base::Judgement;
+use base::Refusal;
+use checksum::Check;
+use poly::Generator;
+ghost use mathlib.Core.Path.{_≡_};
+ghost use Prim.Native.Nat.{_*_, _%_, _^_};
+ghost use lib.ListN.{length};
+ghost use Rattle.base.specs.Judged.{judgement, judged};
+ghost use Rattle.packet.specs.Packet.{crcOf};
+ghost use Rattle.maker.specs.Source.{nextState, byteOf, drawn, stateAfter};
+ghost use Rattle.maker.specs.Calls.{makeConditions, makeAnswer, makeCall, makePacket};
+
+pub enum MakeAnswer {
+    Made(u32),
+    Refused(Refusal),
+}
+
+// The numbers of the source's rule.
+const MULTIPLIER: u32 = 1664525;
+
+const INCREMENT: u32 = 1013904223;
+
+// a * b, modulo 2^32.
+fn wrapping_mul(a: u32, b: u32) -> u32
+    ensures { λ r. ⌜ r ≡ a * b % 2 ^ 32 ⌝ }
+{
+    (a as u64 * b as u64 % 4294967296) as u32
+}
+
+// The state after this one.
+pub fn next_state(state: u32) -> u32
+    ensures { λ r. ⌜ r ≡ nextState state ⌝ }
+{
+    std::num::wrapping_add_u32(wrapping_mul(MULTIPLIER, state), INCREMENT)
+}
+
+// The byte that a state yields: its top eight bits.
+fn byte_of(state: u32) -> u8
+    ensures { λ r. ⌜ r ≡ byteOf state ⌝ }
+{
+    (state / 16777216) as u8
+}
+
+// Fills a slice with the bytes of the source, first byte first, and tells the state that it has come to.
+pub fn fill(packet: &mut [u8], seed: u32) -> u32
+    ensures state { λ r. ⌜ r ≡ stateAfter (length (now (packet .entry))) seed ⌝ }
+    ensures bytes { λ _. ⌜ now (packet .exit) ≡ drawn (length (now (packet .entry))) seed ⌝ }
+{
+    let mut state = seed;
+    let mut i: usize = 0;
+    while i < packet.len() {
+        let next = next_state(state);
+        packet[i] = byte_of(next);
+        state = next;
+        i += 1;
+    }
+    state
+}
+
+// The conditions of the maker, in their order.
+fn judge_make(
+    generator: u64,
+    init: u64,
+    xorout: u64,
+    check: Check,
+    field: usize,
+    len: usize,
+) -> Judgement
+    ensures { λ r. ⌜ judgement r ≡ judged (makeConditions (crcOf generator init xorout) (8 * len) check field) ⌝ }
+{
+    let judged = packet::judge_packet(generator, init, xorout, len);
+    if let Judgement::Refused(r) = judged {
+        return Judgement::Refused(r);
+    }
+    let g = Generator::of(generator);
+    if checksum::unfit_range(g, len, check) {
+        return Judgement::Refused(Refusal::Range);
+    }
+    if checksum::unfit_field(check, field) {
+        return Judgement::Refused(Refusal::Field);
+    }
+    Judgement::Passed
+}
+
+// Makes a packet from a seed: bytes of the source, stamped and then sealed. The answer is the final state.
+pub fn make(
+    generator: u64,
+    init: u64,
+    xorout: u64,
+    seed: u32,
+    check: Check,
+    field: usize,
+    packet: &mut [u8],
+) -> MakeAnswer
+    ensures answer { λ r. ⌜ makeAnswer r ≡ makeCall (crcOf generator init xorout) seed check field (now (packet .entry)) ⌝ }
+    ensures bytes { λ _. ⌜ now (packet .exit) ≡ makePacket (crcOf generator init xorout) seed check field (now (packet .entry)) ⌝ }
+{
+    let judged = judge_make(generator, init, xorout, check, field, packet.len());
+    match judged {
+        Judgement::Refused(r) => MakeAnswer::Refused(r),
+        Judgement::Passed => {
+            let state = fill(packet, seed);
+            checksum::stamp(generator, check, field, packet);
+            packet::seal(generator, init, xorout, packet);
+            MakeAnswer::Made(state)
+        }
+    }
+}
