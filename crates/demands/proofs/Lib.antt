@@ -2,4 +2,5 @@ pub mod ReadBits
 pub mod Demand2
 pub mod Demand3
 pub mod PlainCalls
+pub mod MadePackets
 pub mod WorkedRows

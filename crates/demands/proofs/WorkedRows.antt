@@ -1,16 +1,18 @@
 -- The rows worked by hand hold of the meanings: every definition is unfolded, and the checker computes both sides.
 use mathlib.Core.Path.{refl}
 use Rattle.poly.specs.Polynomial.{down, downIn, degree, degreeIn, reduce, rem, powers}
-use Rattle.packet.specs.Packet.{polynomial, polynomialAfter, asRead, remainder, flip, flips}
+use Rattle.packet.specs.Packet.{polynomial, polynomialAfter, bytes, asRead, remainder, sealed, flip, flips}
 use Rattle.tables.specs.Tables.{power, least, period, step, first}
-use Rattle.checksum.specs.Checksum.{words, folded, sumFrom, sumOf, range, passes}
+use Rattle.checksum.specs.Checksum.{words, folded, sumFrom, sumOf, range, passes, withField, stamped}
+use Rattle.maker.specs.Source.{nextState, byteOf, drawn, stateAfter}
+use Rattle.maker.specs.Calls.{made}
 use Rattle.patterns.specs.Order.{lower, before}
 use Rattle.patterns.specs.Listing.{syndrome, choose, upTo, sift, listing, follows}
 use Rattle.repair.specs.Verdicts.{passesBoth, candidates}
 use Rattle.demands.specs.Worked.{Worked}
 
 pub worked-rows : Worked
-unfolding down downIn degree degreeIn reduce rem powers polynomial polynomialAfter asRead remainder flip flips power least period step first words folded sumFrom sumOf range passes lower before syndrome choose upTo sift listing follows passesBoth candidates
+unfolding down downIn degree degreeIn reduce rem powers polynomial polynomialAfter bytes asRead remainder sealed flip flips power least period step first words folded sumFrom sumOf range passes withField stamped nextState byteOf drawn stateAfter made lower before syndrome choose upTo sift listing follows passesBoth candidates
 worked-rows =
     record {
       row1 = refl;
@@ -29,4 +31,6 @@ worked-rows =
       row14 = (refl, refl, refl);
       row15 = (refl, refl, refl);
       row16 = refl;
+      row17 = (refl, refl);
+      row18 = (refl, refl);
     }
