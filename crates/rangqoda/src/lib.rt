@@ -1,6 +1,7 @@
 // The library as C functions, which include/rangqoda.h documents. Each calls one call of the layers below and takes its
 // answer apart: a number is returned, and what else there is to tell goes into lent memory.
 use checksum::StampAnswer;
+use maker::MakeAnswer;
 use packet::RemainderAnswer;
 use packet::SealAnswer;
 use pages::PageAnswer;
@@ -21,6 +22,7 @@ ghost use Rattle.packet.specs.Packet.{bytes, crcOf};
 ghost use Rattle.packet.specs.Calls.{remainderCall, sealCall, sealPacket};
 ghost use Rattle.checksum.specs.Checksum.{checkOf};
 ghost use Rattle.checksum.specs.Calls.{sumCall, stampCall, stampPacket};
+ghost use Rattle.maker.specs.Calls.{makeCall, makePacket};
 ghost use Rattle.tables.specs.Calls.{tablesCall, stepsAfter, firstsAfter};
 ghost use Rattle.patterns.specs.Patterns.{mostPositions, positions, placeOf};
 ghost use Rattle.patterns.specs.Records.{recordOf, longestRecord, positionsIn};
@@ -115,6 +117,33 @@ pub extern "C" fn rangqoda_stamp(
     match answer {
         StampAnswer::Refused(r) => base::number_of(r),
         StampAnswer::Stamped => 0,
+    }
+}
+
+#[no_mangle]
+pub extern "C" fn rangqoda_make(
+    generator: u64,
+    init: u64,
+    xorout: u64,
+    seed: u32,
+    start: usize,
+    end: usize,
+    field: usize,
+    packet: &mut [u8],
+    state: &mut u32,
+) -> u32
+    ensures answer { λ r. ⌜ r ≡ code (makeCall (crcOf generator init xorout) seed (checkOf start end) field (now (packet .entry))) ⌝ }
+    ensures packet { λ _. ⌜ now (packet .exit) ≡ makePacket (crcOf generator init xorout) seed (checkOf start end) field (now (packet .entry)) ⌝ }
+    ensures state { λ _. ⌜ now (state .exit) ≡ changed (now (state .entry)) (λ v. v) (makeCall (crcOf generator init xorout) seed (checkOf start end) field (now (packet .entry))) ⌝ }
+{
+    let check = checksum::check_of(start, end);
+    let answer = maker::make(generator, init, xorout, seed, check, field, packet);
+    match answer {
+        MakeAnswer::Refused(r) => base::number_of(r),
+        MakeAnswer::Made(v) => {
+            *state = v;
+            0
+        }
     }
 }
 
