@@ -56,12 +56,17 @@ def checksum(data):
     return total
 
 
+def next_state(state):
+    """The state of the packet maker's source after this one."""
+    return (1664525 * state + 1013904223) % 2**32
+
+
 @cache
 def filled(length, seed):
-    """The bytes of a test packet: the top eight bits of each 32-bit state after the seed."""
+    """The bytes that the source yields from a seed on: the top eight bits of each state after it."""
     out = bytearray()
     for _ in range(length):
-        seed = (1664525 * seed + 1013904223) % 2**32
+        seed = next_state(seed)
         out.append(seed >> 24)
     return bytes(out)
 

@@ -66,15 +66,9 @@ pub fn least(n: usize, most: usize) -> usize
     most
 }
 
-// Bytes from a linear congruential generator: the top eight bits of each 32-bit state after the seed.
+// Bytes of the packet maker's source.
 pub fn fill(out: &mut [u8], seed: u32) {
-    let mut state = seed as u64;
-    let mut i = 0;
-    while i < out.len() {
-        state = (state * 1664525 + 1013904223) % 4294967296;
-        out[i] = (state / 16777216) as u8;
-        i += 1;
-    }
+    maker::fill(out, seed);
 }
 
 // Bytes, each a number of the text; the answer is the place behind the last one.

@@ -1,0 +1,104 @@
+#!/usr/bin/env python3
+"""Writes the stdout that the program maker_test is held to.
+
+The states are those of docs/RULES.md, section 12, and are also taken many steps at once by the closed form of the rule; the
+packets are filled, stamped and sealed by the reading of the rules in reference.py. Nothing here is taken from the library. Run it
+from anywhere:
+
+    python3 tests/maker_vectors.py
+"""
+from pathlib import Path
+
+from reference import CCITT, FIVE, checksum, degree_of, filled, fnv, next_state, remainder_of, unfit_generator, unfit_length, unfit_values
+
+TARGET = Path(__file__).resolve().parent.parent / "crates" / "maker_test" / "stdout"
+
+SEEDS = [0, 1, 255, 65536, 2**31, 2**32 - 2, 2**32 - 1]
+GENERATORS = [9, FIVE, CCITT, 131071, 52, 131073]
+VALUES = [0, 6, 65535, 65536]
+LENGTHS = [0, 3, 8, 64, 512, 513]
+HUGE = 2**64 - 1
+PLACES = [
+    (0, 2, 0),
+    (0, 6, 4),
+    (1, 6, 3),
+    (0, 62, 30),
+    (0, 510, 508),
+    (2, 2, 2),
+    (0, 6, 1),
+    (0, 6, 5),
+    (4, 6, 2),
+    (HUGE - 1, HUGE, HUGE),
+]
+
+
+def states(seed, count):
+    """So many states after the seed."""
+    out = []
+    for _ in range(count):
+        seed = next_state(seed)
+        out.append(seed)
+    return out
+
+
+def state_after(seed, steps):
+    """The state after so many steps: a s + c, then a (a s + c) + c and so on is a^n s + c (a^n - 1) / (a - 1)."""
+    power = 1664525**steps
+    return (power * seed + 1013904223 * ((power - 1) // 1664524)) % 2**32
+
+
+def refusal(generator, initial, final, start, end, field, length):
+    """The first condition that refuses the maker, or 0."""
+    if unfit_generator(generator):
+        return 1
+    if unfit_length(generator, 8 * length):
+        return 2
+    if unfit_values(generator, initial, final):
+        return 11
+    if not (start < end and 8 * end <= 8 * length - degree_of(generator)):
+        return 9
+    if not start <= field <= end - 2 or (field - start) % 2:
+        return 10
+    return 0
+
+
+def made(generator, initial, final, seed, start, end, field, length):
+    """The packet: the bytes drawn, with the field made to fit the range and then the last bits made to leave nothing."""
+    packet = bytearray(filled(length, seed))
+    packet[field : field + 2] = bytes(2)
+    packet[field : field + 2] = (0xFFFF - checksum(packet[start:end])).to_bytes(2, "big")
+    value = int.from_bytes(packet, "big") ^ remainder_of(packet, generator, initial, final)
+    packet = value.to_bytes(length, "big")
+    assert checksum(packet[start:end]) == 0xFFFF and remainder_of(packet, generator, initial, final) == 0
+    return packet
+
+
+# the first states after 0 as "Numerical Recipes in C" prints them (second edition, section 7.1)
+assert states(0, 11) == [
+    0x3C6EF35F, 0x47502932, 0xD1CCF6E9, 0xAAF95334, 0x6252E503, 0x9F2EC686,
+    0x57FE6C2D, 0xA3D95FA8, 0x81FDBEE7, 0x94F0AF1A, 0xCBF633B1,
+]  # fmt: skip
+out = [" ".join(map(str, states(seed, 11))) + " " for seed in SEEDS]
+
+case, mixed, accepted = 0, 2166136261, 0
+for generator in GENERATORS:
+    for length in LENGTHS:
+        for initial in VALUES:
+            line = ""
+            for final in VALUES:
+                for place in PLACES:
+                    seed = SEEDS[case % 7]
+                    number = refusal(generator, initial, final, *place, length)
+                    if number:
+                        line += f"r{number} "
+                        packet = b"\xaa" * length
+                    else:
+                        line += f"s{state_after(seed, length)} "
+                        packet = made(generator, initial, final, seed, *place, length)
+                        accepted += 1
+                    mixed = fnv(packet, mixed)
+                    case += 1
+            out.append(f"{line}{mixed}")
+
+TARGET.write_text("\n".join(out) + "\n")
+print(f"{case} calls, {accepted} of them accepted")
