@@ -1,5 +1,5 @@
--- The packet made is of bytes, as many as were asked for; and where none of the maker's conditions applies, the calls stamp and
--- seal accept the bytes drawn and leave it.
+-- Where none of the maker's conditions applies, the calls stamp and seal accept the bytes drawn, and leave the packet made; and that
+-- is of bytes, as many as were asked for.
 use mathlib.Core.Path.{_≡_, ap, _∙_}
 use mathlib.Core.Bool.{false}
 use Prim.Native.Nat.{ℕ, _*_}
@@ -20,14 +20,6 @@ use Rattle.maker.specs.Source.{drawn}
 use Rattle.maker.specs.Calls.{made, makeConditions}
 use Rattle.maker.proofs.SourceLaws.{drawn-length}
 
-pub made-length : (c : Crc) (seed : ℕ) (k : Check) (f count : ℕ) → length (made c seed k f count) ≡ count
-unfolding made sealed
-made-length c seed k f count = length-bytes (length (stamped k f (drawn count seed))) _ ∙ stamped-length k f (drawn count seed) ∙ drawn-length count seed
-
-pub made-bytes : (c : Crc) (seed : ℕ) (k : Check) (f count : ℕ) → Bytes (made c seed k f count)
-unfolding made sealed
-made-bytes c seed k f count = bytes-are (length (stamped k f (drawn count seed))) _
-
 module _ (g init xorout seed : ℕ) (k : Check) (f count : ℕ) (clear : (i : ℕ) → applied i (makeConditions (crcOf g init xorout) (8 * count) k f) ≡ false) where
   drawn-fits : unfitLength (degree g) (bits (drawn count seed)) ≡ false
   drawn-fits = rw (drawn-length count seed) (clear 2)
@@ -47,3 +39,11 @@ module _ (g init xorout seed : ℕ) (k : Check) (f count : ℕ) (clear : (i : �
       let s = drawn count seed in
       ap (sealPacket (crcOf g init xorout)) (judge-accepted (stampConditions g (bits s) k f) tt tt (λ _. s) (stamped k f s) stamp-accepts)
       ∙ simp (clear 1, stamped-fits, clear 11)
+
+pub made-length : (c : Crc) (seed : ℕ) (k : Check) (f count : ℕ) → length (made c seed k f count) ≡ count
+unfolding made sealed
+made-length c seed k f count = length-bytes (length (stamped k f (drawn count seed))) _ ∙ stamped-length k f (drawn count seed) ∙ drawn-length count seed
+
+pub made-bytes : (c : Crc) (seed : ℕ) (k : Check) (f count : ℕ) → Bytes (made c seed k f count)
+unfolding made sealed
+made-bytes c seed k f count = bytes-are (length (stamped k f (drawn count seed))) _
