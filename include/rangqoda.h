@@ -3,8 +3,9 @@
  *
  * A packet ends in a CRC and carries an Internet checksum (RFC 1071) over a
  * part of its bytes. The library takes remainders and seals packets, sums and
- * stamps them, lists all sets of at most so many bit errors that explain a
- * remainder, and repairs a packet where the checksum leaves just one of them.
+ * stamps them, makes packets from a seed, lists all sets of at most so many bit
+ * errors that explain a remainder, and repairs a packet where the checksum
+ * leaves just one of them.
  *
  * Link with librangqoda.a (x86-64 Linux). Nothing is allocated, kept between
  * calls or shared: calls on different memory may run at the same time. A page
@@ -332,6 +333,31 @@ uint16_t rangqoda_sum(const uint8_t *bytes, size_t len);
 uint32_t rangqoda_stamp(uint64_t generator,
                         size_t start, size_t end, size_t field,
                         uint8_t *packet, size_t packet_len);
+
+/*
+ * Makes a packet that anyone can make again from the same numbers: fills it from
+ * a seed, first byte first, stamps the range [start, end) at field, and seals it.
+ *
+ * The bytes come from a 32-bit state, which begins as the seed. In each step the
+ * state becomes 1664525 times itself plus 1013904223, modulo 2^32, and its top
+ * eight bits are the next byte. From seed 0 the first byte is 3Ch. Any seed will
+ * do, and what the packet held before does not matter.
+ *
+ * Refused by 1, 2, 11, 9, 10. Otherwise writes all bytes of packet, and into
+ * *state the state after the last of them. A repair of the packet by the same
+ * CRC and range says RANGQODA_INTACT.
+ *
+ * A footnote "CRC-16/XMODEM, 16 bytes, checksum over bytes 0 to 13 at byte 12,
+ * seed 7" is the call
+ *
+ *   rangqoda_make(RANGQODA_CRC_16_XMODEM, 7, 0, 14, 12, packet, 16, &state)
+ *
+ * For more packets pass the state as the next seed. Seeds that are close to each
+ * other, as 1 and 2, begin with like bytes.
+ */
+uint32_t rangqoda_make(uint64_t generator, uint64_t initial, uint64_t final,
+                       uint32_t seed, size_t start, size_t end, size_t field,
+                       uint8_t *packet, size_t packet_len, uint32_t *state);
 
 /*
  * Builds the two tables of a generator, each of exactly 2^n entries.

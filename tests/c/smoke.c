@@ -252,6 +252,77 @@ static void sum_and_stamp(void)
     EXPECT(memcmp(before, packet, sizeof packet) == 0);
 }
 
+/* Packets from a seed: what is drawn, and what other code made of it. */
+static void made(void)
+{
+    static const uint8_t right[16] = { 0x3D, 0xE9, 0x9C, 0xED, 0x0C, 0xDB, 0x5C, 0x0D,
+                                       0x11, 0xFB, 0xF9, 0x88, 0xB0, 0xBC, 0x17, 0x21 };
+    static const uint32_t seeds[] = { 0, 1, 0x80000000u, UINT32_MAX };
+    uint8_t packet[512];
+    uint32_t state = 77;
+    uint64_t left = 77;
+
+    EXPECT(rangqoda_make(RANGQODA_CRC_16_XMODEM, 7, 0, 14, 12, packet, 16, &state) == RANGQODA_ACCEPTED);
+    EXPECT(memcmp(packet, right, sizeof right) == 0 && state == 0xC704D217u);
+    EXPECT(rangqoda_make(RANGQODA_CRC_16_XMODEM, 0, 0, 6, 4, packet, 8, &state) == RANGQODA_ACCEPTED);
+    EXPECT(packet[0] == 0x3C && packet[4] == 0xF2 && packet[5] == 0x0D && packet[6] == 0x52 && packet[7] == 0x37);
+    EXPECT(rangqoda_make(RANGQODA_CRC_16_IBM_3740, 0, 0, 6, 4, packet, 8, &state) == RANGQODA_ACCEPTED);
+    EXPECT(packet[0] == 0x3C && packet[4] == 0xF2 && packet[5] == 0x0D && packet[6] == 0x5C && packet[7] == 0x27);
+
+    for (size_t k = 0; k < sizeof seeds / sizeof *seeds; k++) {
+        uint32_t drawn = seeds[k], other = 0;
+
+        EXPECT(rangqoda_make(RANGQODA_CRC_16_GENIBUS, seeds[k], 0, 510, 508, packet, 512, &state) == RANGQODA_ACCEPTED);
+        for (size_t i = 0; i < 512; i++) {
+            drawn = 1664525u * drawn + 1013904223u;
+            other += i < 508 && packet[i] != drawn >> 24;
+        }
+        EXPECT(other == 0 && state == drawn);
+        EXPECT(rangqoda_sum(packet, 510) == 0xFFFF);
+        EXPECT(rangqoda_remainder(RANGQODA_CRC_16_GENIBUS, packet, 512, &left) == RANGQODA_ACCEPTED && left == 0);
+    }
+}
+
+/* The conditions of a made packet, each alone and every two at once: the first in the order 1, 2, 11, 9, 10 is the answer. */
+static void unmade(void)
+{
+    static const uint32_t order[] = { 1, 2, 11, 9, 10 };
+    const size_t count = sizeof order / sizeof *order;
+
+    for (size_t k = 0; k < count * count; k++) {
+        unsigned broken = 1u << order[k / count] | 1u << order[k % count];
+        uint32_t number = order[k / count < k % count ? k / count : k % count], state = 77;
+        uint8_t packet[8] = { 9, 9, 9, 9, 9, 9, 9, 9 };
+
+        EXPECT(rangqoda_make(broken & 1u << 1 ? 52 : RANGQODA_FIVE, broken & 1u << 11 ? 32 : 31, 31, 5, 0,
+                             broken & 1u << 9 ? 8 : 7, broken & 1u << 10 ? 1 : 4, packet, broken & 1u << 2 ? 0 : 8,
+                             &state) == number);
+        EXPECT(state == 77 && packet[0] == 9 && packet[4] == 9 && packet[7] == 9);
+    }
+}
+
+/* Every packet made is intact: one after the other, each from the state that the one before left, at every limit. */
+static void intact(void)
+{
+    uint8_t packet[24], output[24], verdict[RANGQODA_VERDICT_BYTES];
+    uint64_t period, wrong = 0;
+    uint32_t state = 0;
+
+    EXPECT(rangqoda_tables(RANGQODA_FIVE, step, 32, first, 32, &period) == RANGQODA_ACCEPTED);
+    for (unsigned k = 0; k < 20000; k++) {
+        size_t len = 3 + k % 22, end = len - 1, start = k % (end - 1), field = start + (k / 2 % (end - start - 1)) / 2 * 2;
+        uint64_t initial = k % 32, final = k / 32 % 32;
+
+        verdict[0] = 77;
+        output[0] = (uint8_t)k;
+        wrong += rangqoda_make(RANGQODA_FIVE, initial, final, state, start, end, field, packet, len, &state) != 0;
+        wrong += rangqoda_repair(RANGQODA_FIVE, initial, final, start, end, 1 + k % 4, step, 32, first, 32, packet, len,
+                                 output, len, verdict, sizeof verdict) != 0;
+        wrong += verdict[0] != RANGQODA_INTACT || output[0] != (uint8_t)k;
+    }
+    EXPECT(wrong == 0);
+}
+
 static void tables(void)
 {
     uint64_t period = 77;
@@ -351,6 +422,9 @@ int main(void)
     unfit_values();
     values();
     sum_and_stamp();
+    made();
+    unmade();
+    intact();
     tables();
     pages();
     repairs();

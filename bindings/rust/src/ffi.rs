@@ -27,6 +27,19 @@ extern "C" {
         packet_len: usize,
     ) -> u32;
 
+    pub fn rangqoda_make(
+        generator: u64,
+        init: u64,
+        xorout: u64,
+        seed: u32,
+        start: usize,
+        end: usize,
+        field: usize,
+        packet: *mut u8,
+        packet_len: usize,
+        state: *mut u32,
+    ) -> u32;
+
     pub fn rangqoda_tables(
         generator: u64,
         step: *mut u16,

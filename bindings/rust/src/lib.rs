@@ -1,8 +1,9 @@
 //! Error correction from CRCs, for packets of up to 512 bytes.
 //!
 //! A packet ends in a CRC and carries an Internet checksum (RFC 1071) over a part of its bytes. This crate takes
-//! [`remainder`]s and [`seal`]s packets, [`sum`]s and [`stamp`]s them, lists all sets of at most so many bit errors that
-//! explain a remainder ([`page`], [`Tables::patterns`]), and [`repair`]s a packet where the checksum leaves just one of them.
+//! [`remainder`]s and [`seal`]s packets, [`sum`]s and [`stamp`]s them, [`make`]s packets from a seed, lists all sets of at most
+//! so many bit errors that explain a remainder ([`page`], [`Tables::patterns`]), and [`repair`]s a packet where the checksum
+//! leaves just one of them.
 //!
 //! It is a safe wrapper over the C functions of a library whose every function is proved to meet its contract. The
 //! wrapper itself is not proved; it judges nothing, and passes every number, length and slice on as it got it. Whatever is
@@ -446,6 +447,45 @@ pub fn sum(bytes: &[u8]) -> u16 {
 pub fn stamp(generator: u64, range: Range<usize>, field: usize, packet: &mut [u8]) -> Result<(), Refusal> {
     // SAFETY: as in `remainder`.
     judged(unsafe { ffi::rangqoda_stamp(generator, range.start, range.end, field, packet.as_mut_ptr(), packet.len()) })
+}
+
+/// Makes a packet that anyone can make again from the same numbers: fills it from a seed, first byte first, stamps the range at
+/// `field`, and seals it. Returns the state after its last byte. Refused by 1, 2, 11, 9, 10, in this order.
+///
+/// The bytes come from a 32-bit state, which begins as the seed. In each step the state becomes 1664525 times itself plus
+/// 1013904223, modulo 2^32, and its top eight bits are the next byte. What the packet held before does not matter. A repair of it
+/// by the same CRC and range says [`Verdict::Intact`].
+///
+/// For more packets pass the state as the next seed. Seeds that are close to each other, as 1 and 2, begin with like bytes.
+///
+/// ```
+/// use rangqoda::{catalogue::CRC_16_XMODEM, make};
+///
+/// // A footnote: "CRC-16/XMODEM, 16 bytes, checksum over bytes 0 to 13 at byte 12, seed 7".
+/// let mut packet = [0; 16];
+/// let state = make(CRC_16_XMODEM, 7, 0..14, 12, &mut packet)?;
+/// assert_eq!(packet, *b"\x3D\xE9\x9C\xED\x0C\xDB\x5C\x0D\x11\xFB\xF9\x88\xB0\xBC\x17\x21");
+/// assert_eq!(state, 0xC704D217);
+/// # Ok::<(), rangqoda::Refusal>(())
+/// ```
+pub fn make(crc: Crc, seed: u32, range: Range<usize>, field: usize, packet: &mut [u8]) -> Result<u32, Refusal> {
+    let mut state = 0;
+    // SAFETY: as in `remainder`.
+    judged(unsafe {
+        ffi::rangqoda_make(
+            crc.generator,
+            crc.init,
+            crc.xorout,
+            seed,
+            range.start,
+            range.end,
+            field,
+            packet.as_mut_ptr(),
+            packet.len(),
+            &mut state,
+        )
+    })?;
+    Ok(state)
 }
 
 /// Fills the two lent tables of a generator, each of exactly 2^n entries, and returns the period: the smallest positive c

@@ -5,7 +5,9 @@
 mod common;
 mod reference;
 
-use common::{unfit_values, Built, PageCall, PageLent, Random, RepairCall, RepairLent, HUGE, UNFIT_GENERATORS, UNSET};
+use common::{
+    unfit_values, Built, MakeCall, PageCall, PageLent, Random, RepairCall, RepairLent, HUGE, UNFIT_GENERATORS, UNSET,
+};
 use rangqoda::Crc;
 use reference::{Mark, Tables, Verdict};
 use std::rc::Rc;
@@ -508,6 +510,113 @@ fn stamp_at_every_place_of_a_small_packet() {
                     assert_eq!(found, (number, stamped), "{generator} {start}..{end} {field}");
                 }
             }
+        }
+    }
+}
+
+// ---- the packet maker
+
+/// Compares a made packet, and gives the number of the answer.
+fn compare_make(call: &MakeCall, before: &[u8]) -> u32 {
+    let MakeCall { crc, seed, start, end, field } = *call;
+    let mut packet = before.to_vec();
+    let expected = match reference::make(crc, seed, start, end, field, &mut packet) {
+        Ok(state) => (0, packet, state),
+        Err(number) => (number, before.to_vec(), UNSET as u32),
+    };
+    let found = common::make(call, before);
+    assert!(found == expected, "{call:?} {}: {found:02X?}, expected {expected:02X?}", before.len());
+    found.0
+}
+
+fn some_seed(random: &mut Random) -> u32 {
+    let any = random.next() as u32;
+    random.pick(&[0, 1, 1 << 31, u32::MAX - 1, u32::MAX, any, any, any])
+}
+
+#[test]
+fn make_fills_stamps_and_seals() {
+    let mut random = Random::new(22);
+    let mut refused = [0; 12];
+    for _ in 0..20_000 {
+        let crc = some_crc(&mut random);
+        let len = some_bytes(&mut random);
+        let before = random.packet(len);
+        let mut place = |near: usize| match random.below(12) {
+            0 => random.pick(&HUGE),
+            1 => random.within(0, len + 4),
+            _ => random.within(0, near),
+        };
+        let (start, end, field) = (place(len / 2), place(len), place(len));
+        let call = MakeCall { crc, seed: some_seed(&mut random), start, end, field };
+        refused[compare_make(&call, &before) as usize] += 1;
+    }
+    for number in [0, 1, 2, 9, 10, 11] {
+        assert!(refused[number] > 100, "{refused:?}");
+    }
+}
+
+/// A range with a field, for a CRC of n bits behind it.
+fn some_place(random: &mut Random, len: usize, n: usize) -> (usize, usize, usize) {
+    let end = random.within(2, (8 * len - n) / 8);
+    let start = random.within(0, end - 2);
+    (start, end, start + 2 * random.within(0, (end - start - 2) / 2))
+}
+
+#[test]
+fn make_refuses_by_the_first_that_applies() {
+    let mut random = Random::new(23);
+    let order = [1, 2, 11, 9, 10];
+    for broken in Broken::subsets(&order) {
+        for _ in 0..100 {
+            let degree = random.within(3, 16) as u32;
+            let n = degree as usize;
+            let generator = random.generator(degree);
+            let mut crc = random.values(generator);
+            let room = random.within(n.div_ceil(8) + 2, 40);
+            let (mut start, mut end, mut field) = some_place(&mut random, room, n);
+            if broken.has(10) {
+                let huge = random.pick(&HUGE);
+                field = random.pick(&[start + 1, end - 1, end, end + 1, huge]);
+            }
+            if broken.has(9) {
+                let huge = random.pick(&HUGE);
+                (start, end) = random.pick(&[(start, start), (end, start), (start, room), (start, huge), (huge, end)]);
+            }
+            let len = if broken.has(2) { random.pick(&[0, n / 8, 513, 600]) } else { room };
+            if broken.has(11) {
+                crc = unfit_values(&mut random, crc);
+            }
+            if broken.has(1) {
+                crc.generator = random.pick(&UNFIT_GENERATORS);
+            }
+            let call = MakeCall { crc, seed: some_seed(&mut random), start, end, field };
+            let before = random.packet(len);
+            assert_eq!(compare_make(&call, &before), broken.first(&order), "{call:?} {len}");
+        }
+    }
+}
+
+/// At every limit, and with the output left alone.
+#[test]
+fn every_packet_made_is_intact() {
+    let mut random = Random::new(24);
+    for round in 0..4_000 {
+        let generator = random.known_generator();
+        let n = reference::degree(generator);
+        let crc = random.values(generator);
+        let len = random.within(n.div_ceil(8) + 2, if round % 4 == 0 { 512 } else { 40 });
+        let (start, end, field) = some_place(&mut random, len, n);
+        let call = MakeCall { crc, seed: some_seed(&mut random), start, end, field };
+        let (number, packet, _) = common::make(&call, &vec![0; len]);
+        assert_eq!(number, 0, "{call:?}");
+        let tables = reference::tables_of(generator);
+        let (step, first) = (&tables.step[..], &tables.first[..]);
+        let lent = RepairLent { output: random.bytes(len), verdict: random.bytes(VERDICT_BYTES) };
+        for limit in 1..=4 {
+            let repair = RepairCall { crc, start, end, limit, step, first, packet: &packet };
+            let intact = RepairLent { output: lent.output.clone(), verdict: verdict_bytes(0, 0, &[]) };
+            assert_eq!(common::repair(&repair, &lent), (0, intact), "{call:?}");
         }
     }
 }
@@ -1185,6 +1294,9 @@ fn the_wrapper_passes_refusals_on() {
     assert_eq!(tables.repair(five, 0..2, 1, &[0; 3], &mut output), Err(Refusal::Output));
     assert_eq!(tables.repair(five, 0..3, 1, &[0; 3], &mut output[..3]), Err(Refusal::Range));
     assert_eq!(rangqoda::stamp(CCITT, 0..4, 1, &mut output), Err(Refusal::Field));
+    assert_eq!(rangqoda::make(wide, 7, 0..4, 1, &mut output), Err(Refusal::Values));
+    assert_eq!(rangqoda::make(five, 7, 0..16, 1, &mut output), Err(Refusal::Range));
+    assert_eq!(rangqoda::make(five, 7, 0..4, 1, &mut output), Err(Refusal::Field));
     assert_eq!(tables.patterns(8, 0, 3).err(), Some(Refusal::Limit));
     assert_eq!(output, [0; 16]);
 }

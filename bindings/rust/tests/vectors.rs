@@ -2,8 +2,8 @@
 //! values of the catalogue of parametrised CRC algorithms.
 
 use rangqoda::{
-    catalogue, hand_back, page, remainder, repair, seal, stamp, sum, Crc, Mark, Pattern, Refusal, TableSlices, Tables,
-    Verdict, CCITT, FIVE, NO_POSITION,
+    catalogue, hand_back, make, page, remainder, repair, seal, stamp, sum, Crc, Mark, Pattern, Refusal, TableSlices,
+    Tables, Verdict, CCITT, FIVE, NO_POSITION,
 };
 
 /// The list, as slices of positions.
@@ -105,6 +105,72 @@ fn verdicts_of_five() {
     let repaired = tables.repair(Crc::plain(FIVE), 0..2, 1, &[0x7F, 0xFF, 0x05], &mut output).unwrap();
     assert_eq!(repaired, Verdict::Repaired(pattern(&[23])));
     assert_eq!(output, [0xFF, 0xFF, 0x05]);
+}
+
+#[test]
+fn packets_made_from_seed_0() {
+    for (init, crc) in [(0, [0x52, 0x37]), (0xFFFF, [0x5C, 0x27])] {
+        let mut packet = [0xAA; 8];
+        let state = make(Crc { generator: CCITT, init, xorout: 0 }, 0, 0..6, 4, &mut packet);
+        assert_eq!(packet[..6], [0x3C, 0x47, 0xD1, 0xAA, 0xF2, 0x0D]);
+        assert_eq!(packet[6..], crc);
+        assert_eq!(state, Ok(0xA3D95FA8));
+    }
+}
+
+/// The states after 0 that "Numerical Recipes in C" prints (second edition, section 7.1): from each the later ones follow.
+#[test]
+fn the_published_states_of_the_source() {
+    let states = [
+        0, 0x3C6EF35F, 0x47502932, 0xD1CCF6E9, 0xAAF95334, 0x6252E503, 0x9F2EC686, 0x57FE6C2D, 0xA3D95FA8, 0x81FDBEE7,
+        0x94F0AF1A, 0xCBF633B1,
+    ];
+    for from in 0..states.len() {
+        // a packet of less than three bytes has no room for a field
+        for to in from + 3..states.len() {
+            let mut packet = vec![0; to - from];
+            assert_eq!(make(Crc::plain(9), states[from], 0..2, 0, &mut packet), Ok(states[to]));
+        }
+    }
+}
+
+/// The 32-bit FNV-1a hash.
+fn hash(bytes: &[u8]) -> u32 {
+    bytes.iter().fold(2166136261, |hash, &byte| (hash ^ u32::from(byte)).wrapping_mul(16777619))
+}
+
+/// Hashes and states of packets that other code made: 512 bytes with the field at the range's end, and 16 with an odd range.
+#[test]
+fn whole_packets_by_their_hashes() {
+    let small = Crc { generator: FIVE, init: 31, xorout: 9 };
+    #[rustfmt::skip]
+    let packets = [
+        (catalogue::CRC_16_XMODEM, 0, 0xFB572C93, 0x94B8C296),
+        (catalogue::CRC_16_XMODEM, 1, 0xF4EF8BD6, 0xF23A094D),
+        (catalogue::CRC_16_XMODEM, u32::MAX, 0x7858FC9A, 0x339E124C),
+        (catalogue::CRC_16_IBM_3740, 0, 0xC100C0CE, 0xBBB7CA29),
+        (catalogue::CRC_16_IBM_3740, 1, 0x7F46758B, 0x24BEBDEA),
+        (catalogue::CRC_16_IBM_3740, u32::MAX, 0xCC01DD5F, 0x1E29F8BF),
+        (catalogue::CRC_16_GENIBUS, 0, 0xBF8897F8, 0x063DAD53),
+        (catalogue::CRC_16_GENIBUS, 1, 0xBDA6C961, 0x59FB0E74),
+        (catalogue::CRC_16_GENIBUS, u32::MAX, 0xB1AD2835, 0xC3E78DE9),
+        (small, 0, 0x0AFD63B5, 0x7DA24DD7),
+        (small, 1, 0xBA3F0DE2, 0x923E7996),
+        (small, u32::MAX, 0x6B288129, 0x75AC7BF7),
+    ];
+    for (crc, seed, long, short) in packets {
+        let (after_512, after_16) = match seed {
+            0 => (0x5E794A00, 0x83C6B450),
+            1 => (0xA938D201, 0xFB18B891),
+            _ => (0x13B9C1FF, 0x0C74B00F),
+        };
+        let mut packet = [0; 512];
+        assert_eq!(make(crc, seed, 0..510, 508, &mut packet), Ok(after_512), "{crc:?} {seed}");
+        assert_eq!(hash(&packet), long, "{crc:?} {seed}");
+        let mut packet = [0; 16];
+        assert_eq!(make(crc, seed, 3..12, 5, &mut packet), Ok(after_16), "{crc:?} {seed}");
+        assert_eq!(hash(&packet), short, "{crc:?} {seed}");
+    }
 }
 
 #[test]

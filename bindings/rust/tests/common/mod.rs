@@ -224,6 +224,37 @@ pub fn stamp(generator: u64, start: usize, end: usize, field: usize, packet: &[u
     (number, lent.content().to_vec())
 }
 
+/// What a packet is made from, apart from its length.
+#[derive(Clone, Copy, Debug)]
+pub struct MakeCall {
+    pub crc: Crc,
+    pub seed: u32,
+    pub start: usize,
+    pub end: usize,
+    pub field: usize,
+}
+
+/// The answer, the packet and the state, which is `UNSET`'s low half before.
+pub fn make(call: &MakeCall, packet: &[u8]) -> (u32, Vec<u8>, u32) {
+    let mut lent = Guarded::new(packet);
+    let mut state = Guarded::new(&[UNSET as u32]);
+    let number = unsafe {
+        ffi::rangqoda_make(
+            call.crc.generator,
+            call.crc.init,
+            call.crc.xorout,
+            call.seed,
+            call.start,
+            call.end,
+            call.field,
+            lent.as_mut_ptr(),
+            packet.len(),
+            state.as_mut_ptr(),
+        )
+    };
+    (number, lent.content().to_vec(), state.content()[0])
+}
+
 #[derive(Clone, Debug, PartialEq, Eq)]
 pub struct Built {
     pub step: Vec<u16>,

@@ -225,6 +225,34 @@ pub fn stamp(generator: u64, start: usize, end: usize, field: usize, packet: &mu
     Ok(())
 }
 
+// ---- the packet maker
+
+/// The states after a seed: each is 1664525 times the one before plus 1013904223, modulo 2^32.
+pub fn states(seed: u32) -> impl Iterator<Item = u32> {
+    let mut state = u128::from(seed);
+    std::iter::from_fn(move || {
+        state = (1664525 * state + 1013904223) % (1 << 32);
+        u32::try_from(state).ok()
+    })
+}
+
+/// Fills the packet with the top eight bits of each state, stamps it and seals it; the last state.
+pub fn make(crc: Crc, seed: u32, start: usize, end: usize, field: usize, packet: &mut [u8]) -> Answer<u32> {
+    let n = generator_fits(crc.generator)?;
+    length_fits(packet_length(packet), n)?;
+    values_fit(crc, n)?;
+    range_fits(start, end, packet_length(packet), n)?;
+    field_fits(start, end, field)?;
+    let mut last = seed;
+    for (byte, state) in packet.iter_mut().zip(states(seed)) {
+        *byte = state.to_be_bytes()[0];
+        last = state;
+    }
+    stamp(crc.generator, start, end, field, packet)?;
+    seal(crc, packet)?;
+    Ok(last)
+}
+
 // ---- tables
 
 #[derive(Clone, Debug, PartialEq, Eq)]
