@@ -57,13 +57,13 @@ def checksum(data):
 
 
 def next_state(state):
-    """The state of the packet maker's source after this one."""
+    """The state of the packet maker's stream after this one."""
     return (1664525 * state + 1013904223) % 2**32
 
 
 @cache
 def filled(length, seed):
-    """The bytes that the source yields from a seed on: the top eight bits of each state after it."""
+    """The bytes that the stream yields from a seed on: the top eight bits of each state after it."""
     out = bytearray()
     for _ in range(length):
         seed = next_state(seed)

@@ -12,9 +12,9 @@ use Rattle.packet.specs.Packet.{bits, crcOf}
 use Rattle.packet.specs.Calls.{sealPacket}
 use Rattle.checksum.specs.Calls.{stampConditions, stampPacket}
 use Rattle.checksum.specs.declared.Check.{Check}
-use Rattle.maker.specs.Source.{drawn, stateAfter}
+use Rattle.maker.specs.Stream.{drawn, stateAfter}
 use Rattle.maker.specs.Calls.{made, makeConditions, makeCall, makePacket}
-use Rattle.maker.proofs.SourceLaws.{drawn-bytes}
+use Rattle.maker.proofs.StreamLaws.{drawn-bytes}
 use Rattle.maker.proofs.MadeLaws.{made-length, made-bytes, stamp-accepts, made-by-calls}
 use Rattle.tables.specs.Tables.{stepTable, firstTable}
 use Rattle.patterns.specs.Listing.{unfitLimit}
@@ -39,7 +39,7 @@ module _ (g i x seed : ℕ) (k : Check) (f : ℕ) (s : List ℕ) (y : ℕ) (h : 
   leaves : makePacket (crcOf g i x) seed k f s ≡ made (crcOf g i x) seed k f (length s)
   leaves = judge-accepted (makeConditions (crcOf g i x) (bits s) k f) (stateAfter (length s) seed) y (λ _. s) (made (crcOf g i x) seed k f (length s)) h
 
-  -- the packet is what stamp, and then seal, leave of the bytes that the source yields
+  -- the packet is what stamp, and then seal, leave of the bytes that the stream yields
   pub made-of-drawn : makePacket (crcOf g i x) seed k f s ≡ sealPacket (crcOf g i x) (stampPacket g k f (drawn (length s) seed))
   made-of-drawn = leaves ∙ sym (made-by-calls g i x seed k f (length s) clear)
 
@@ -55,10 +55,10 @@ module _ (g i x seed : ℕ) (k : Check) (f : ℕ) (s : List ℕ) (y : ℕ) (h : 
 
   supposed : (limit : ℕ) → unfitLimit limit ≡ false → Supposed (crcOf g i x) k limit (makePacket (crcOf g i x) seed k f s)
   supposed limit fit =
-      let same = made-length (crcOf g i x) seed k f (length s) in
+      let same = made-length g i x seed k f (length s) clear in
       rw leaves
       (record {
-        bytes = made-bytes (crcOf g i x) seed k f (length s);
+        bytes = made-bytes g i x seed k f (length s) clear;
         numbered = refl;
         fitGenerator = clear 1;
         fitLength = rw same (clear 2);
@@ -73,7 +73,7 @@ module _ (g i x seed : ℕ) (k : Check) (f : ℕ) (s : List ℕ) (y : ℕ) (h : 
       ≡ accepted intact
   made-intact limit fit out named room =
       let t = makePacket (crcOf g i x) seed k f s in
-      let same : length out ≡ length t = room ∙ sym (ap length leaves ∙ made-length (crcOf g i x) seed k f (length s)) in
+      let same : length out ≡ length t = room ∙ sym (ap length leaves ∙ made-length g i x seed k f (length s) clear) in
       repair-accepted (crcOf g i x) k limit t (supposed limit fit) out named same ∙ ap accepted (verdict-intact named (crcOf g i x) k limit t .1 made-passes)
 
   -- and no repair that is accepted says anything else, or changes its output

@@ -4,7 +4,7 @@ use Rattle.poly.specs.Polynomial.{down, downIn, degree, degreeIn, reduce, rem, 
 use Rattle.packet.specs.Packet.{polynomial, polynomialAfter, bytes, asRead, remainder, sealed, flip, flips}
 use Rattle.tables.specs.Tables.{power, least, period, step, first}
 use Rattle.checksum.specs.Checksum.{words, folded, sumFrom, sumOf, range, passes, withField, stamped}
-use Rattle.maker.specs.Source.{nextState, byteOf, drawn, stateAfter}
+use Rattle.maker.specs.Stream.{nextState, byteOf, drawn, stateAfter}
 use Rattle.maker.specs.Calls.{made}
 use Rattle.patterns.specs.Order.{lower, before}
 use Rattle.patterns.specs.Listing.{syndrome, choose, upTo, sift, listing, follows}

@@ -9,7 +9,7 @@ use Rattle.packet.specs.Packet.{crcOf, remainder}
 use Rattle.tables.specs.Tables.{period, step, first}
 use Rattle.checksum.specs.Checksum.{sumOf, checkOf}
 use Rattle.checksum.specs.declared.Check.{Check}
-use Rattle.maker.specs.Source.{drawn, stateAfter}
+use Rattle.maker.specs.Stream.{drawn, stateAfter}
 use Rattle.maker.specs.Calls.{made}
 use Rattle.patterns.specs.Patterns.{after}
 use Rattle.patterns.specs.Listing.{listing}
@@ -66,7 +66,7 @@ pub record Worked : Type 0 where
       × (remainder (crcOf 0x11021 0x1D0F 0) checked ≡ 0xE5CC)
   -- ccitt, 41 00 00, both FFFFh: 46EAh
   pub row16 : remainder (crcOf 0x11021 0xFFFF 0xFFFF) (0x41 ∷ 0 ∷ 0 ∷ []) ≡ 0x46EA
-  -- the source from seed 0: its first four bytes, and the state after them: 3C 47 D1 AA; AAF95334h
+  -- the stream from seed 0: its first four bytes, and the state after them: 3C 47 D1 AA; AAF95334h
   pub row17 : (drawn 4 0 ≡ 0x3C ∷ 0x47 ∷ 0xD1 ∷ 0xAA ∷ []) × (stateAfter 4 0 ≡ 0xAAF95334)
   -- ccitt, seed 0, range [0,6), field 4, eight bytes; the same with I FFFFh: 3C 47 D1 AA F2 0D 52 37; 3C 47 D1 AA F2 0D 5C 27
   pub row18 : (made (crcOf 0x11021 0 0) 0 (checkOf 0 6) 4 8 ≡ 0x3C ∷ 0x47 ∷ 0xD1 ∷ 0xAA ∷ 0xF2 ∷ 0x0D ∷ 0x52 ∷ 0x37 ∷ [])

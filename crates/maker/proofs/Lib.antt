@@ -1,2 +1,2 @@
-pub mod SourceLaws
+pub mod StreamLaws
 pub mod MadeLaws

@@ -2,23 +2,24 @@
 -- is of bytes, as many as were asked for.
 use mathlib.Core.Path.{_≡_, ap, _∙_}
 use mathlib.Core.Bool.{false}
-use Prim.Native.Nat.{ℕ, _*_}
+use Prim.Native.Nat.{ℕ, _*_, _≤_}
+use native.Mathlib.Omega.{arith}
 use lib.ListN.{length}
 use Rattle.base.specs.Outcome.{accepted}
 use Rattle.base.proofs.JudgeLaws.{applied, judge-accepted}
 use Rattle.poly.specs.Polynomial.{degree}
-use Rattle.packet.specs.Packet.{Bytes, bits, unfitLength, crcOf, sealed}
+use Rattle.poly.proofs.GeneratorLaws.{fit-accepted}
+use Rattle.packet.specs.Packet.{Bytes, bits, unfitLength, crcOf}
 use Rattle.packet.specs.Calls.{sealPacket}
-use Rattle.packet.specs.declared.Crc.{Crc}
-use Rattle.packet.proofs.PacketLaws.{length-bytes}
-use Rattle.packet.proofs.SealLaws.{bytes-are}
+use Rattle.packet.proofs.PacketLaws.{fit-length}
+use Rattle.packet.proofs.SealLaws.{sealed-length, sealed-bytes}
 use Rattle.checksum.specs.Checksum.{unfitRange, stamped}
 use Rattle.checksum.specs.Calls.{stampConditions, stampCall, stampPacket}
 use Rattle.checksum.specs.declared.Check.{Check}
-use Rattle.checksum.proofs.StampLaws.{stamped-length}
-use Rattle.maker.specs.Source.{drawn}
+use Rattle.checksum.proofs.StampLaws.{stamped-length, stamped-bytes}
+use Rattle.maker.specs.Stream.{drawn}
 use Rattle.maker.specs.Calls.{made, makeConditions}
-use Rattle.maker.proofs.SourceLaws.{drawn-length}
+use Rattle.maker.proofs.StreamLaws.{drawn-length, drawn-bytes}
 
 module _ (g init xorout seed : ℕ) (k : Check) (f count : ℕ) (clear : (i : ℕ) → applied i (makeConditions (crcOf g init xorout) (8 * count) k f) ≡ false) where
   drawn-fits : unfitLength (degree g) (bits (drawn count seed)) ≡ false
@@ -40,10 +41,16 @@ module _ (g init xorout seed : ℕ) (k : Check) (f count : ℕ) (clear : (i : �
       ap (sealPacket (crcOf g init xorout)) (judge-accepted (stampConditions g (bits s) k f) tt tt (λ _. s) (stamped k f s) stamp-accepts)
       ∙ simp (clear 1, stamped-fits, clear 11)
 
-pub made-length : (c : Crc) (seed : ℕ) (k : Check) (f count : ℕ) → length (made c seed k f count) ≡ count
-unfolding made sealed
-made-length c seed k f count = length-bytes (length (stamped k f (drawn count seed))) _ ∙ stamped-length k f (drawn count seed) ∙ drawn-length count seed
+  long : degree g ≤ bits (stamped k f (drawn count seed))
+  long = omega (arith, fit-length (degree g) (bits (stamped k f (drawn count seed))) stamped-fits .0)
 
-pub made-bytes : (c : Crc) (seed : ℕ) (k : Check) (f count : ℕ) → Bytes (made c seed k f count)
-unfolding made sealed
-made-bytes c seed k f count = bytes-are (length (stamped k f (drawn count seed))) _
+  pub made-length : length (made (crcOf g init xorout) seed k f count) ≡ count
+  unfolding made
+  made-length =
+      sealed-length (crcOf g init xorout) (fit-accepted g (clear 1) .divisor) (stamped k f (drawn count seed)) (stamped-bytes k f _ (drawn-bytes count seed)) long
+      ∙ stamped-length k f (drawn count seed)
+      ∙ drawn-length count seed
+
+  pub made-bytes : Bytes (made (crcOf g init xorout) seed k f count)
+  unfolding made
+  made-bytes = sealed-bytes (crcOf g init xorout) (fit-accepted g (clear 1) .divisor) (stamped k f (drawn count seed)) (stamped-bytes k f _ (drawn-bytes count seed)) long

@@ -1,2 +1,2 @@
-pub mod Source
+pub mod Stream
 pub mod Calls

@@ -8,7 +8,7 @@ ghost use Prim.Native.Nat.{_*_, _%_, _^_};
 ghost use lib.ListN.{length};
 ghost use Rattle.base.specs.Judged.{judgement, judged};
 ghost use Rattle.packet.specs.Packet.{crcOf};
-ghost use Rattle.maker.specs.Source.{nextState, byteOf, drawn, stateAfter};
+ghost use Rattle.maker.specs.Stream.{nextState, byteOf, drawn, stateAfter};
 ghost use Rattle.maker.specs.Calls.{makeConditions, makeAnswer, makeCall, makePacket};
 
 pub enum MakeAnswer {
@@ -16,7 +16,7 @@ pub enum MakeAnswer {
     Refused(Refusal),
 }
 
-// The numbers of the source's rule.
+// The numbers of the stream's rule.
 const MULTIPLIER: u32 = 1664525;
 
 const INCREMENT: u32 = 1013904223;
@@ -42,7 +42,7 @@ fn byte_of(state: u32) -> u8
     (state / 16777216) as u8
 }
 
-// Fills a slice with the bytes of the source, first byte first, and tells the state that it has come to.
+// Fills a slice with the bytes of the stream, first byte first, and tells the state that it has come to.
 pub fn fill(packet: &mut [u8], seed: u32) -> u32
     ensures state { λ r. ⌜ r ≡ stateAfter (length (now (packet .entry))) seed ⌝ }
     ensures bytes { λ _. ⌜ now (packet .exit) ≡ drawn (length (now (packet .entry))) seed ⌝ }
@@ -83,7 +83,7 @@ fn judge_make(
     Judgement::Passed
 }
 
-// Makes a packet from a seed: bytes of the source, stamped and then sealed. The answer is the final state.
+// Makes a packet from a seed: bytes of the stream, stamped and then sealed. The answer is the final state.
 pub fn make(
     generator: u64,
     init: u64,

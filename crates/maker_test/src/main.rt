@@ -1,4 +1,4 @@
-// Compares the packet maker and its source with numbers and packets that were made by other code (see stdout).
+// Compares the packet maker and its stream with numbers and packets that were made by other code (see stdout).
 use maker::MakeAnswer;
 ghost use Prim.Native.Nat.{_<_};
 

@@ -66,7 +66,7 @@ pub fn least(n: usize, most: usize) -> usize
     most
 }
 
-// Bytes of the packet maker's source.
+// Bytes of the packet maker's stream.
 pub fn fill(out: &mut [u8], seed: u32) {
     maker::fill(out, seed);
 }

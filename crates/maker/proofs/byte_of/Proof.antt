@@ -1,6 +1,6 @@
 -- `byte_of` divides by 2^24, so that eight of 32 bits are left.
 use borrow.Author.Needs.{needs}
-use Rattle.maker.specs.Source.{byteOf}
+use Rattle.maker.specs.Stream.{byteOf}
 use Rattle.maker.proofs.byte_of.Statement.{statement}
 use Rattle.maker.proofs.byte_of.Tie as tie
 

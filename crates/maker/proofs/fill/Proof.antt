@@ -1,9 +1,9 @@
--- `fill` writes the bytes of the source and comes to its state. Invariant: what is written, then what is due, is what was due at first.
+-- `fill` writes the bytes of the stream and comes to its state. Invariant: what is written, then what is due, is what was due at first.
 use Prim.Native.Nat.{_-_}
 use native.Mathlib.Omega.{arith}
 use borrow.Author.Needs.{needs}
 use lib.ListN.{length}
-use Rattle.maker.proofs.SourceLaws.{Filling, filling-starts, filling-goes-on, filling-ends}
+use Rattle.maker.proofs.StreamLaws.{Filling, filling-starts, filling-goes-on, filling-ends}
 use Rattle.maker.proofs.fill.Statement.{statement}
 use Rattle.maker.proofs.fill.Tie as tie
 

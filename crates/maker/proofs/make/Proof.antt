@@ -9,7 +9,7 @@ use Rattle.base.proofs.JudgeLaws.{turned-down, let-through, none-applies}
 use Rattle.packet.specs.Packet.{crcOf}
 use Rattle.packet.specs.Calls.{sealPacket}
 use Rattle.checksum.specs.Calls.{stampPacket}
-use Rattle.maker.specs.Source.{stateAfter}
+use Rattle.maker.specs.Stream.{stateAfter}
 use Rattle.maker.specs.Calls.{made, makeConditions}
 use Rattle.maker.proofs.MadeLaws.{made-by-calls}
 use Rattle.maker.proofs.make.Statement.{statement}

@@ -1,6 +1,6 @@
--- `next_state` is the source's rule: the sum of two numbers modulo 2^32 is that of the numbers themselves.
+-- `next_state` is the stream's rule: the sum of two numbers modulo 2^32 is that of the numbers themselves.
 use borrow.Author.Needs.{needs}
-use Rattle.maker.specs.Source.{nextState}
+use Rattle.maker.specs.Stream.{nextState}
 use Rattle.maker.proofs.next_state.Statement.{statement}
 use Rattle.maker.proofs.next_state.Tie as tie
 

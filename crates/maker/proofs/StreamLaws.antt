@@ -1,4 +1,4 @@
--- The source: its states have 32 bits and its bytes 8, and what a step takes off the bytes that are due.
+-- The stream: its states have 32 bits and its bytes 8, and what a step takes off the bytes that are due.
 use mathlib.Core.Path.{_≡_, refl, sym, ap, _∙_}
 use mathlib.Core.List.{List, [], _∷_, _++_, append-assoc, append-nil}
 use Prim.Native.Nat.{ℕ, zero, suc, _+_, _-_, _^_, _≤_, _<_}
@@ -7,7 +7,7 @@ use native.Mathlib.Omega.{arith}
 use lib.ListN.{length, take, set, length-set}
 use lib.Seq.{take-all, take-suc-set}
 use Rattle.packet.specs.Packet.{Bytes}
-use Rattle.maker.specs.Source.{nextState, byteOf, drawn, stateAfter}
+use Rattle.maker.specs.Stream.{nextState, byteOf, drawn, stateAfter}
 
 pub nextState-lt : (x : ℕ) → nextState x < 2 ^ 32
 unfolding nextState

@@ -1,4 +1,4 @@
--- The source of a made packet's bytes: a 32-bit state, which begins as a seed and yields a byte at each step.
+-- The stream of a made packet's bytes: a 32-bit state, which begins as a seed and yields a byte at each step.
 use Prim.Native.Nat.{ℕ, zero, suc, _+_, _*_, _/_, _%_, _^_}
 use mathlib.Core.List.{List, [], _∷_}
 
