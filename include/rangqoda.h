@@ -335,16 +335,17 @@ uint32_t rangqoda_stamp(uint64_t generator,
                         uint8_t *packet, size_t packet_len);
 
 /*
- * Makes a packet that anyone can make again from the same numbers: fills it from
- * a seed, first byte first, stamps the range [start, end) at field, and seals it.
+ * Makes a packet from a seed: fills it, stamps the range [start, end) at field
+ * as rangqoda_stamp does, and seals it. The same numbers make the same packet,
+ * whatever it held before.
  *
- * The bytes come from a 32-bit state, which begins as the seed. In each step the
- * state becomes 1664525 times itself plus 1013904223, modulo 2^32, and its top
- * eight bits are the next byte. From seed 0 the first byte is 3Ch. Any seed will
- * do, and what the packet held before does not matter.
+ * The bytes come from a 32-bit state, the seed to begin with. Each step goes
+ * from a state s to (1664525 * s + 1013904223) mod 2^32, and the top eight bits
+ * of that are the next byte, from the first one on. Any seed will do. The first
+ * byte that seed 0 yields is 3Ch.
  *
  * Refused by 1, 2, 11, 9, 10. Otherwise writes all bytes of packet, and into
- * *state the state after the last of them. A repair of the packet by the same
+ * *state the state after packet_len steps. A repair of the packet by the same
  * CRC and range says RANGQODA_INTACT.
  *
  * A footnote "CRC-16/XMODEM, 16 bytes, checksum over bytes 0 to 13 at byte 12,
@@ -352,8 +353,9 @@ uint32_t rangqoda_stamp(uint64_t generator,
  *
  *   rangqoda_make(RANGQODA_CRC_16_XMODEM, 7, 0, 14, 12, packet, 16, &state)
  *
- * For more packets pass the state as the next seed. Seeds that are close to each
- * other, as 1 and 2, begin with like bytes.
+ * For more packets pass the state as the next seed. Seeds that follow each
+ * other are a poor choice for trials: most give the same first byte as their
+ * neighbours, and later bytes at fixed distances from theirs.
  */
 uint32_t rangqoda_make(uint64_t generator, uint64_t initial, uint64_t final,
                        uint32_t seed, size_t start, size_t end, size_t field,

@@ -1,5 +1,5 @@
 #!/usr/bin/env python3
-"""Writes the stdout that the program maker_test is held to.
+"""Writes the stdout that the program maker_test is held to, and prints the hashes in bindings/rust/tests/vectors.rs.
 
 The states are those of docs/RULES.md, section 12, and are also taken many steps at once by the closed form of the rule; the
 packets are filled, stamped and sealed by the reading of the rules in reference.py. Nothing here is taken from the library. Run it
@@ -9,12 +9,13 @@ from anywhere:
 """
 from pathlib import Path
 
-from reference import CCITT, FIVE, checksum, degree_of, filled, fnv, next_state, remainder_of, unfit_generator, unfit_length, unfit_values
+from reference import CCITT, FIVE, checksum, degree_of, filled, fnv, next_state, remainder_of
+from reference import unfit_generator, unfit_length, unfit_values
 
 TARGET = Path(__file__).resolve().parent.parent / "crates" / "maker_test" / "stdout"
 
 SEEDS = [0, 1, 255, 65536, 2**31, 2**32 - 2, 2**32 - 1]
-GENERATORS = [9, FIVE, CCITT, 131071, 52, 131073]
+GENERATORS = [9, FIVE, CCITT, 131071, 131073]
 VALUES = [0, 6, 65535, 65536]
 LENGTHS = [0, 3, 8, 64, 512, 513]
 HUGE = 2**64 - 1
@@ -26,7 +27,7 @@ PLACES = [
     (0, 510, 508),
     (2, 2, 2),
     (0, 6, 1),
-    (0, 6, 5),
+    (0, 6, 6),
     (4, 6, 2),
     (HUGE - 1, HUGE, HUGE),
 ]
@@ -102,3 +103,9 @@ for generator in GENERATORS:
 
 TARGET.write_text("\n".join(out) + "\n")
 print(f"{case} calls, {accepted} of them accepted")
+
+for crc in ((CCITT, 0, 0), (CCITT, 0xFFFF, 0), (CCITT, 0xFFFF, 0xFFFF), (FIVE, 31, 9)):
+    for seed in (0, 1, 2**32 - 1):
+        hashes = [fnv(made(*crc, seed, *place)) for place in ((0, 510, 508, 512), (3, 12, 5, 16))]
+        after = [state_after(seed, steps) for steps in (512, 16)]
+        print(crc, seed, *(f"{number:08X}" for number in hashes + after))

@@ -258,11 +258,16 @@ static void made(void)
     static const uint8_t right[16] = { 0x3D, 0xE9, 0x9C, 0xED, 0x0C, 0xDB, 0x5C, 0x0D,
                                        0x11, 0xFB, 0xF9, 0x88, 0xB0, 0xBC, 0x17, 0x21 };
     static const uint32_t seeds[] = { 0, 1, 0x80000000u, UINT32_MAX };
+    /* a seed whose register holds more than 32 bits */
+    volatile uint64_t wide = (uint64_t)0xDEADBEEF << 32 | 7;
     uint8_t packet[512];
     uint32_t state = 77;
     uint64_t left = 77;
 
     EXPECT(rangqoda_make(RANGQODA_CRC_16_XMODEM, 7, 0, 14, 12, packet, 16, &state) == RANGQODA_ACCEPTED);
+    EXPECT(memcmp(packet, right, sizeof right) == 0 && state == 0xC704D217u);
+    memset(packet, 0xAA, sizeof packet);
+    EXPECT(rangqoda_make(RANGQODA_CRC_16_XMODEM, (uint32_t)wide, 0, 14, 12, packet, 16, &state) == RANGQODA_ACCEPTED);
     EXPECT(memcmp(packet, right, sizeof right) == 0 && state == 0xC704D217u);
     EXPECT(rangqoda_make(RANGQODA_CRC_16_XMODEM, 0, 0, 6, 4, packet, 8, &state) == RANGQODA_ACCEPTED);
     EXPECT(packet[0] == 0x3C && packet[4] == 0xF2 && packet[5] == 0x0D && packet[6] == 0x52 && packet[7] == 0x37);
@@ -283,25 +288,33 @@ static void made(void)
     }
 }
 
-/* The conditions of a made packet, each alone and every two at once: the first in the order 1, 2, 11, 9, 10 is the answer. */
+/* The conditions of a made packet, each alone and every two at once: the first in the order 1, 2, 11, 9, 10 is the answer. Each
+   is broken by a small number and by one whose low 32 bits would fit. */
 static void unmade(void)
 {
     static const uint32_t order[] = { 1, 2, 11, 9, 10 };
-    const size_t count = sizeof order / sizeof *order;
+    static const uint64_t unfit[][2] = { { 32, 31 }, { 31, 32 }, { (uint64_t)1 << 32 | 31, 31 }, { 31, (uint64_t)1 << 32 } };
+    static const size_t ranges[][2] = { { 0, 8 }, { 7, 7 }, { 0, ((size_t)1 << 32) + 7 }, { (size_t)1 << 32, 7 } };
+    static const size_t fields[] = { 1, 6, ((size_t)1 << 32) + 4, (size_t)-2 };
+    static const uint8_t nines[8] = { 9, 9, 9, 9, 9, 9, 9, 9 };
 
-    for (size_t k = 0; k < count * count; k++) {
-        unsigned broken = 1u << order[k / count] | 1u << order[k % count];
-        uint32_t number = order[k / count < k % count ? k / count : k % count], state = 77;
-        uint8_t packet[8] = { 9, 9, 9, 9, 9, 9, 9, 9 };
+    for (size_t k = 0; k < 4 * 25; k++) {
+        size_t a = k / 20, b = k / 4 % 5, way = k % 4;
+        unsigned broken = 1u << order[a] | 1u << order[b];
+        uint64_t generator = broken & 1u << 1 ? (way % 2 ? (uint64_t)1 << 32 | 53 : 52) : RANGQODA_FIVE;
+        uint64_t initial = broken & 1u << 11 ? unfit[way][0] : 31, final = broken & 1u << 11 ? unfit[way][1] : 31;
+        size_t start = broken & 1u << 9 ? ranges[way][0] : 0, end = broken & 1u << 9 ? ranges[way][1] : 7;
+        size_t field = broken & 1u << 10 ? fields[way] : 4, len = broken & 1u << 2 ? 0 : 8;
+        uint8_t packet[8];
+        uint32_t state = 77;
 
-        EXPECT(rangqoda_make(broken & 1u << 1 ? 52 : RANGQODA_FIVE, broken & 1u << 11 ? 32 : 31, 31, 5, 0,
-                             broken & 1u << 9 ? 8 : 7, broken & 1u << 10 ? 1 : 4, packet, broken & 1u << 2 ? 0 : 8,
-                             &state) == number);
-        EXPECT(state == 77 && packet[0] == 9 && packet[4] == 9 && packet[7] == 9);
+        memcpy(packet, nines, sizeof packet);
+        EXPECT(rangqoda_make(generator, initial, final, 5, start, end, field, packet, len, &state) == order[a < b ? a : b]);
+        EXPECT(state == 77 && memcmp(packet, nines, sizeof packet) == 0);
     }
 }
 
-/* Every packet made is intact: one after the other, each from the state that the one before left, at every limit. */
+/* Every packet made is intact: one after the other, each from the state that the one before left, at limits 1 to 4 in turn. */
 static void intact(void)
 {
     uint8_t packet[24], output[24], verdict[RANGQODA_VERDICT_BYTES];
@@ -311,13 +324,14 @@ static void intact(void)
     EXPECT(rangqoda_tables(RANGQODA_FIVE, step, 32, first, 32, &period) == RANGQODA_ACCEPTED);
     for (unsigned k = 0; k < 20000; k++) {
         size_t len = 3 + k % 22, end = len - 1, start = k % (end - 1), field = start + (k / 2 % (end - start - 1)) / 2 * 2;
-        uint64_t initial = k % 32, final = k / 32 % 32;
+        size_t limit = 1 + k / 22 % 4;
+        uint64_t initial = k / 7 % 32, final = k / 224 % 32;
 
         verdict[0] = 77;
         output[0] = (uint8_t)k;
         wrong += rangqoda_make(RANGQODA_FIVE, initial, final, state, start, end, field, packet, len, &state) != 0;
-        wrong += rangqoda_repair(RANGQODA_FIVE, initial, final, start, end, 1 + k % 4, step, 32, first, 32, packet, len,
-                                 output, len, verdict, sizeof verdict) != 0;
+        wrong += rangqoda_repair(RANGQODA_FIVE, initial, final, start, end, limit, step, 32, first, 32, packet, len, output,
+                                 len, verdict, sizeof verdict) != 0;
         wrong += verdict[0] != RANGQODA_INTACT || output[0] != (uint8_t)k;
     }
     EXPECT(wrong == 0);

@@ -1,4 +1,4 @@
-//! Makes a packet, damages it and repairs it: `cargo run --example repair`.
+//! Seals a packet, damages it and repairs it: `cargo run --example repair`.
 
 use rangqoda::{catalogue, hand_back, remainder, seal, stamp, Crc, Refusal, Tables, Verdict};
 

@@ -449,14 +449,15 @@ pub fn stamp(generator: u64, range: Range<usize>, field: usize, packet: &mut [u8
     judged(unsafe { ffi::rangqoda_stamp(generator, range.start, range.end, field, packet.as_mut_ptr(), packet.len()) })
 }
 
-/// Makes a packet that anyone can make again from the same numbers: fills it from a seed, first byte first, stamps the range at
-/// `field`, and seals it. Returns the state after its last byte. Refused by 1, 2, 11, 9, 10, in this order.
+/// Makes a packet from a seed: fills it, stamps the range at `field`, and seals it. The same numbers make the same packet,
+/// whatever it held before. Refused by 1, 2, 11, 9, 10, in this order.
 ///
-/// The bytes come from a 32-bit state, which begins as the seed. In each step the state becomes 1664525 times itself plus
-/// 1013904223, modulo 2^32, and its top eight bits are the next byte. What the packet held before does not matter. A repair of it
-/// by the same CRC and range says [`Verdict::Intact`].
+/// The bytes come from a 32-bit state, the seed to begin with. Each step goes from a state s to (1664525 s + 1013904223) mod 2^32,
+/// and the top eight bits of that are the next byte, from the first one on. Returned is the state after as many steps as the
+/// packet has bytes. A repair of the packet by the same CRC and range says [`Verdict::Intact`].
 ///
-/// For more packets pass the state as the next seed. Seeds that are close to each other, as 1 and 2, begin with like bytes.
+/// For more packets pass the state as the next seed. Seeds that follow each other are a poor choice for trials: most give the
+/// same first byte as their neighbours, and later bytes at fixed distances from theirs.
 ///
 /// ```
 /// use rangqoda::{catalogue::CRC_16_XMODEM, make};

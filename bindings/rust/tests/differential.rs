@@ -577,11 +577,13 @@ fn make_refuses_by_the_first_that_applies() {
             let (mut start, mut end, mut field) = some_place(&mut random, room, n);
             if broken.has(10) {
                 let huge = random.pick(&HUGE);
-                field = random.pick(&[start + 1, end - 1, end, end + 1, huge]);
+                field = random.pick(&[start + 1, end - 1, end, end + 1, start.wrapping_sub(2), huge]);
             }
             if broken.has(9) {
                 let huge = random.pick(&HUGE);
-                (start, end) = random.pick(&[(start, start), (end, start), (start, room), (start, huge), (huge, end)]);
+                let past = (8 * room - n) / 8 + 1;
+                let empty = [(start, start), (end, start), (huge, end)];
+                (start, end) = random.pick(&[empty, [(start, past), (start, room), (start, huge)]].concat());
             }
             let len = if broken.has(2) { random.pick(&[0, n / 8, 513, 600]) } else { room };
             if broken.has(11) {
@@ -616,7 +618,7 @@ fn every_packet_made_is_intact() {
         for limit in 1..=4 {
             let repair = RepairCall { crc, start, end, limit, step, first, packet: &packet };
             let intact = RepairLent { output: lent.output.clone(), verdict: verdict_bytes(0, 0, &[]) };
-            assert_eq!(common::repair(&repair, &lent), (0, intact), "{call:?}");
+            assert_eq!(common::repair(&repair, &lent), (0, intact), "{call:?} {len} {limit}");
         }
     }
 }
@@ -1264,6 +1266,7 @@ fn the_wrapper_passes_refusals_on() {
     for generator in UNFIT_GENERATORS {
         assert_eq!(rangqoda::remainder(Crc::plain(generator), &[0; 8]), Err(Refusal::Generator));
         assert_eq!(rangqoda::seal(Crc::plain(generator), &mut [0; 8]), Err(Refusal::Generator));
+        assert_eq!(rangqoda::make(Crc::plain(generator), 7, 0..6, 0, &mut [0; 8]), Err(Refusal::Generator));
         assert_eq!(Tables::new(generator), Err(Refusal::Generator));
     }
     for (number, refusal) in (1..).zip(Refusal::ALL) {
@@ -1294,6 +1297,7 @@ fn the_wrapper_passes_refusals_on() {
     assert_eq!(tables.repair(five, 0..2, 1, &[0; 3], &mut output), Err(Refusal::Output));
     assert_eq!(tables.repair(five, 0..3, 1, &[0; 3], &mut output[..3]), Err(Refusal::Range));
     assert_eq!(rangqoda::stamp(CCITT, 0..4, 1, &mut output), Err(Refusal::Field));
+    assert_eq!(rangqoda::make(wide, 7, 0..4, 1, &mut []), Err(Refusal::Length));
     assert_eq!(rangqoda::make(wide, 7, 0..4, 1, &mut output), Err(Refusal::Values));
     assert_eq!(rangqoda::make(five, 7, 0..16, 1, &mut output), Err(Refusal::Range));
     assert_eq!(rangqoda::make(five, 7, 0..4, 1, &mut output), Err(Refusal::Field));

@@ -1,5 +1,5 @@
-//! Values worked by hand or published elsewhere: the rows of the rules' own table, the traps that they name, and the check
-//! values of the catalogue of parametrised CRC algorithms.
+//! Values worked by hand, published elsewhere or computed by other code: the rows of the rules' own table, the traps that they
+//! name, the check values of the catalogue of parametrised CRC algorithms, and packets made by `tests/maker_vectors.py`.
 
 use rangqoda::{
     catalogue, hand_back, make, page, remainder, repair, seal, stamp, sum, Crc, Mark, Pattern, Refusal, TableSlices,
@@ -139,7 +139,7 @@ fn hash(bytes: &[u8]) -> u32 {
     bytes.iter().fold(2166136261, |hash, &byte| (hash ^ u32::from(byte)).wrapping_mul(16777619))
 }
 
-/// Hashes and states of packets that other code made: 512 bytes with the field at the range's end, and 16 with an odd range.
+/// Hashes and states that `tests/maker_vectors.py` prints: 512 bytes with the field at the range's end, and 16 with an odd range.
 #[test]
 fn whole_packets_by_their_hashes() {
     let small = Crc { generator: FIVE, init: 31, xorout: 9 };

@@ -2,88 +2,86 @@
 -- equals, and repairCall of what it made.
 use mathlib.Core.Path.{_≡_, refl, sym, ap, _∙_}
 use mathlib.Core.Bool.{true, false}
-use mathlib.Core.List.{List}
+use mathlib.Core.List.{List, _∷_, _++_}
 use Prim.Native.Nat.{ℕ}
-use lib.ListN.{length}
-use Rattle.base.specs.Outcome.{accepted}
-use Rattle.base.proofs.JudgeLaws.{applied, judge-accepted, judge-value, judge-clear}
+use lib.ListN.{length, take, drop}
+use Rattle.base.specs.Outcome.{accepted, when}
+use Rattle.base.proofs.JudgeLaws.{applied, judge-accepted, judge-clear}
 use Rattle.poly.specs.Polynomial.{degree}
-use Rattle.packet.specs.Packet.{bits, crcOf}
+use Rattle.packet.specs.Packet.{bits, unfitValues, crcOf}
 use Rattle.packet.specs.Calls.{sealPacket}
+use Rattle.packet.specs.declared.Crc.{Crc}
 use Rattle.checksum.specs.Calls.{stampConditions, stampPacket}
 use Rattle.checksum.specs.declared.Check.{Check}
-use Rattle.maker.specs.Stream.{drawn, stateAfter}
+use Rattle.maker.specs.Stream.{yielded, stateAfter}
 use Rattle.maker.specs.Calls.{made, makeConditions, makeCall, makePacket}
-use Rattle.maker.proofs.StreamLaws.{drawn-bytes}
+use Rattle.maker.proofs.StreamLaws.{yielded-bytes}
 use Rattle.maker.proofs.MadeLaws.{made-length, made-bytes, stamp-accepts, made-by-calls}
 use Rattle.tables.specs.Tables.{stepTable, firstTable}
 use Rattle.patterns.specs.Listing.{unfitLimit}
-use Rattle.pages.specs.Sequences.{Lending}
-use Rattle.repair.specs.Verdicts.{passesBoth, Said, intact, verdict, outputFor}
-use Rattle.repair.specs.Calls.{repairConditions, repairCall, repairOutput}
+use Rattle.repair.specs.Verdicts.{passesBoth, intact}
+use Rattle.repair.specs.Calls.{repairCall}
 use Rattle.repair.proofs.VerdictLaws.{verdict-intact}
 use Rattle.demands.specs.Demand3.{Supposed, repairWith}
-use Rattle.demands.specs.Plain.{without}
 use Rattle.demands.proofs.Demand2.{stamp-and-seal}
 use Rattle.demands.proofs.Demand3.{repair-accepted}
 
--- it is refused as stamp is, but for 11
-pub refused-as-stamp : (g i x l : ℕ) (k : Check) (f : ℕ) → without 11 (makeConditions (crcOf g i x) l k f) ≡ stampConditions g l k f
-refused-as-stamp g i x l k f = refl
+module _ (g init xorout seed : ℕ) (k : Check) (f : ℕ) where
+  abbrev crc : Crc
+  crc = crcOf g init xorout
 
--- what an accepted call makes
-module _ (g i x seed : ℕ) (k : Check) (f : ℕ) (s : List ℕ) (y : ℕ) (h : makeCall (crcOf g i x) seed k f s ≡ accepted y) where
-  clear : (m : ℕ) → applied m (makeConditions (crcOf g i x) (bits s) k f) ≡ false
-  clear = judge-clear (makeConditions (crcOf g i x) (bits s) k f) (stateAfter (length s) seed) y h
+  -- its conditions are stamp's, with 11 put in behind 2
+  pub conditions-of-stamp : (l : ℕ)
+      → makeConditions crc l k f ≡ take 2 (stampConditions g l k f) ++ when 11 (unfitValues (degree g) init xorout) ∷ drop 2 (stampConditions g l k f)
+  conditions-of-stamp l = refl
 
-  leaves : makePacket (crcOf g i x) seed k f s ≡ made (crcOf g i x) seed k f (length s)
-  leaves = judge-accepted (makeConditions (crcOf g i x) (bits s) k f) (stateAfter (length s) seed) y (λ _. s) (made (crcOf g i x) seed k f (length s)) h
+  -- what an accepted call makes
+  module _ (s : List ℕ) (x : ℕ) (h : makeCall crc seed k f s ≡ accepted x) where
+    clear : (m : ℕ) → applied m (makeConditions crc (bits s) k f) ≡ false
+    clear = judge-clear (makeConditions crc (bits s) k f) (stateAfter (length s) seed) x h
 
-  -- the packet is what stamp, and then seal, leave of the bytes that the stream yields
-  pub made-of-drawn : makePacket (crcOf g i x) seed k f s ≡ sealPacket (crcOf g i x) (stampPacket g k f (drawn (length s) seed))
-  made-of-drawn = leaves ∙ sym (made-by-calls g i x seed k f (length s) clear)
+    leaves : makePacket crc seed k f s ≡ made crc seed k f (length s)
+    leaves = judge-accepted (makeConditions crc (bits s) k f) (stateAfter (length s) seed) x (λ _. s) (made crc seed k f (length s)) h
 
-  -- and the answer is the state after them
-  pub made-answers-state : y ≡ stateAfter (length s) seed
-  made-answers-state = sym (judge-value (makeConditions (crcOf g i x) (bits s) k f) (stateAfter (length s) seed) y h)
+    -- the same packet and the same state come of any bytes of that length
+    pub made-again : (t : List ℕ) → length t ≡ length s → (makeCall crc seed k f t ≡ accepted x) × (makePacket crc seed k f t ≡ makePacket crc seed k f s)
+    made-again t same =
+        let again : makeCall crc seed k f t ≡ accepted x = rw same h in (
+          again,
+          judge-accepted (makeConditions crc (bits t) k f) (stateAfter (length t) seed) x (λ _. t) (made crc seed k f (length t)) again
+              ∙ ap (made crc seed k f) same
+              ∙ sym leaves,
+        )
 
-  -- it passes both checks
-  pub made-passes : passesBoth (crcOf g i x) k (makePacket (crcOf g i x) seed k f s) ≡ true
-  made-passes =
-      ap (passesBoth (crcOf g i x) k) made-of-drawn
-      ∙ stamp-and-seal g k f (drawn (length s) seed) (drawn-bytes (length s) seed) (stamp-accepts g i x seed k f (length s) clear) (crcOf g i x) refl (clear 11)
+    -- the packet is what stamp, and then seal, leave of the bytes yielded
+    pub made-of-yielded : makePacket crc seed k f s ≡ sealPacket crc (stampPacket g k f (yielded (length s) seed))
+    made-of-yielded = leaves ∙ sym (made-by-calls g init xorout seed k f (length s) clear)
 
-  supposed : (limit : ℕ) → unfitLimit limit ≡ false → Supposed (crcOf g i x) k limit (makePacket (crcOf g i x) seed k f s)
-  supposed limit fit =
-      let same = made-length g i x seed k f (length s) clear in
-      rw leaves
-      (record {
-        bytes = made-bytes g i x seed k f (length s) clear;
-        numbered = refl;
-        fitGenerator = clear 1;
-        fitLength = rw same (clear 2);
-        fitValues = clear 11;
-        fitLimit = fit;
-        fitRange = rw same (clear 9);
-      })
+    -- it passes both checks
+    pub made-passes : passesBoth crc k (makePacket crc seed k f s) ≡ true
+    made-passes =
+        ap (passesBoth crc k) made-of-yielded
+        ∙ stamp-and-seal g k f (yielded (length s) seed) (yielded-bytes (length s) seed) (stamp-accepts g init xorout seed k f (length s) clear) crc refl (clear 11)
 
-  -- so a repair of it by the same CRC and range says Intact, at every limit, with right tables and an output of its length
-  pub made-intact : (limit : ℕ) → unfitLimit limit ≡ false → (out named : List ℕ) → length out ≡ length s
-      → repairCall (repairWith (crcOf g i x) k limit (makePacket (crcOf g i x) seed k f s) (record { steps = stepTable (degree g) g; firsts = firstTable (degree g) g; output = out })) named
-      ≡ accepted intact
-  made-intact limit fit out named room =
-      let t = makePacket (crcOf g i x) seed k f s in
-      let same : length out ≡ length t = room ∙ sym (ap length leaves ∙ made-length g i x seed k f (length s) clear) in
-      repair-accepted (crcOf g i x) k limit t (supposed limit fit) out named same ∙ ap accepted (verdict-intact named (crcOf g i x) k limit t .1 made-passes)
+    supposed : (limit : ℕ) → unfitLimit limit ≡ false → Supposed crc k limit (makePacket crc seed k f s)
+    supposed limit fit =
+        let same = made-length g init xorout seed k f (length s) clear in
+        rw leaves
+        (record {
+          bytes = made-bytes g init xorout seed k f (length s) clear;
+          numbered = refl;
+          fitGenerator = clear 1;
+          fitLength = rw same (clear 2);
+          fitValues = clear 11;
+          fitLimit = fit;
+          fitRange = rw same (clear 9);
+        })
 
-  -- and no repair that is accepted says anything else, or changes its output
-  pub made-stays : (limit : ℕ) (lent : Lending) (named : List ℕ) (v : Said)
-      → repairCall (repairWith (crcOf g i x) k limit (makePacket (crcOf g i x) seed k f s) lent) named ≡ accepted v
-      → (v ≡ intact) × (repairOutput (repairWith (crcOf g i x) k limit (makePacket (crcOf g i x) seed k f s) lent) ≡ lent .output)
-  made-stays limit lent named v told =
-      let t = makePacket (crcOf g i x) seed k f s in
-      let ts = repairConditions (repairWith (crcOf g i x) k limit t lent) in (
-        sym (judge-value ts (verdict (crcOf g i x) k limit t named) v told) ∙ verdict-intact named (crcOf g i x) k limit t .1 made-passes,
-        judge-accepted ts (verdict (crcOf g i x) k limit t named) v (λ _. lent .output) (outputFor (crcOf g i x) k limit t (lent .output)) told
-            ∙ rw made-passes,
-      )
+    -- so a repair of it by the same CRC and range, at every limit, with right tables and an output of its length, says Intact
+    pub made-intact : (limit : ℕ) → unfitLimit limit ≡ false → (out named : List ℕ) → length out ≡ length s
+        → repairCall (repairWith crc k limit (makePacket crc seed k f s) (record { steps = stepTable (degree g) g; firsts = firstTable (degree g) g; output = out })) named
+        ≡ accepted intact
+    made-intact limit fit out named room =
+        let t = makePacket crc seed k f s in
+        let same : length out ≡ length t = room ∙ sym (ap length leaves ∙ made-length g init xorout seed k f (length s) clear) in
+        repair-accepted crc k limit t (supposed limit fit) out named same ∙ ap accepted (verdict-intact named crc k limit t .1 made-passes)

@@ -1,10 +1,11 @@
 -- The rows worked by hand hold of the meanings: every definition is unfolded, and the checker computes both sides.
 use mathlib.Core.Path.{refl}
 use Rattle.poly.specs.Polynomial.{down, downIn, degree, degreeIn, reduce, rem, powers}
-use Rattle.packet.specs.Packet.{polynomial, polynomialAfter, bytes, asRead, remainder, sealed, flip, flips}
+use Rattle.poly.specs.Generators.{unfit}
+use Rattle.packet.specs.Packet.{polynomial, polynomialAfter, bytes, unfitLength, unfitValues, asRead, remainder, sealed, flip, flips}
 use Rattle.tables.specs.Tables.{power, least, period, step, first}
-use Rattle.checksum.specs.Checksum.{words, folded, sumFrom, sumOf, range, passes, withField, stamped}
-use Rattle.maker.specs.Stream.{nextState, byteOf, drawn, stateAfter}
+use Rattle.checksum.specs.Checksum.{words, folded, sumFrom, sumOf, range, passes, unfitRange, unfitField, withField, stamped}
+use Rattle.maker.specs.Stream.{nextState, byteOf, yielded, stateAfter}
 use Rattle.maker.specs.Calls.{made}
 use Rattle.patterns.specs.Order.{lower, before}
 use Rattle.patterns.specs.Listing.{syndrome, choose, upTo, sift, listing, follows}
@@ -12,7 +13,7 @@ use Rattle.repair.specs.Verdicts.{passesBoth, candidates}
 use Rattle.demands.specs.Worked.{Worked}
 
 pub worked-rows : Worked
-unfolding down downIn degree degreeIn reduce rem powers polynomial polynomialAfter bytes asRead remainder sealed flip flips power least period step first words folded sumFrom sumOf range passes withField stamped nextState byteOf drawn stateAfter made lower before syndrome choose upTo sift listing follows passesBoth candidates
+unfolding down downIn degree degreeIn reduce rem powers unfit polynomial polynomialAfter bytes unfitLength unfitValues asRead remainder sealed flip flips power least period step first words folded sumFrom sumOf range passes unfitRange unfitField withField stamped nextState byteOf yielded stateAfter made lower before syndrome choose upTo sift listing follows passesBoth candidates
 worked-rows =
     record {
       row1 = refl;
@@ -32,5 +33,5 @@ worked-rows =
       row15 = (refl, refl, refl);
       row16 = refl;
       row17 = (refl, refl);
-      row18 = (refl, refl);
+      row18 = (refl, refl, refl);
     }

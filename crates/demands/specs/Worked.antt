@@ -2,6 +2,7 @@
 use Prim.Native.Nat.{ℕ}
 use mathlib.Core.Path.{_≡_}
 use mathlib.Core.List.{List, [], _∷_}
+use Rattle.base.specs.Outcome.{accepted}
 use Rattle.poly.specs.Polynomial.{degree, rem}
 use Rattle.poly.specs.Generators.{generatorOf, five}
 use Rattle.poly.specs.declared.Generator.{Generator}
@@ -9,8 +10,8 @@ use Rattle.packet.specs.Packet.{crcOf, remainder}
 use Rattle.tables.specs.Tables.{period, step, first}
 use Rattle.checksum.specs.Checksum.{sumOf, checkOf}
 use Rattle.checksum.specs.declared.Check.{Check}
-use Rattle.maker.specs.Stream.{drawn, stateAfter}
-use Rattle.maker.specs.Calls.{made}
+use Rattle.maker.specs.Stream.{yielded, stateAfter}
+use Rattle.maker.specs.Calls.{makeCall, makePacket}
 use Rattle.patterns.specs.Patterns.{after}
 use Rattle.patterns.specs.Listing.{listing}
 use Rattle.patterns.specs.Marks.{remaining}
@@ -27,6 +28,10 @@ firstTwo = checkOf 0 2
 -- the digits 1 to 9 as text, and two zeros
 abbrev pub checked : List ℕ
 checked = 0x31 ∷ 0x32 ∷ 0x33 ∷ 0x34 ∷ 0x35 ∷ 0x36 ∷ 0x37 ∷ 0x38 ∷ 0x39 ∷ 0 ∷ 0 ∷ []
+
+-- eight bytes to be filled
+abbrev pub blank : List ℕ
+blank = 0 ∷ 0 ∷ 0 ∷ 0 ∷ 0 ∷ 0 ∷ 0 ∷ 0 ∷ []
 
 -- bits are given as the digits of a number, packets as their bytes; a verdict is the same whatever pattern is named,
 -- but for the pattern of Several, and Intact is at every N
@@ -67,7 +72,8 @@ pub record Worked : Type 0 where
   -- ccitt, 41 00 00, both FFFFh: 46EAh
   pub row16 : remainder (crcOf 0x11021 0xFFFF 0xFFFF) (0x41 ∷ 0 ∷ 0 ∷ []) ≡ 0x46EA
   -- the stream from seed 0: its first four bytes, and the state after them: 3C 47 D1 AA; AAF95334h
-  pub row17 : (drawn 4 0 ≡ 0x3C ∷ 0x47 ∷ 0xD1 ∷ 0xAA ∷ []) × (stateAfter 4 0 ≡ 0xAAF95334)
-  -- ccitt, seed 0, range [0,6), field 4, eight bytes; the same with I FFFFh: 3C 47 D1 AA F2 0D 52 37; 3C 47 D1 AA F2 0D 5C 27
-  pub row18 : (made (crcOf 0x11021 0 0) 0 (checkOf 0 6) 4 8 ≡ 0x3C ∷ 0x47 ∷ 0xD1 ∷ 0xAA ∷ 0xF2 ∷ 0x0D ∷ 0x52 ∷ 0x37 ∷ [])
-      × (made (crcOf 0x11021 0xFFFF 0) 0 (checkOf 0 6) 4 8 ≡ 0x3C ∷ 0x47 ∷ 0xD1 ∷ 0xAA ∷ 0xF2 ∷ 0x0D ∷ 0x5C ∷ 0x27 ∷ [])
+  pub row17 : (yielded 4 0 ≡ 0x3C ∷ 0x47 ∷ 0xD1 ∷ 0xAA ∷ []) × (stateAfter 4 0 ≡ 0xAAF95334)
+  -- ccitt, eight bytes made from seed 0, range [0,6), field 4: 3C 47 D1 AA F2 0D 52 37, state A3D95FA8h; with I FFFFh: .. 5C 27
+  pub row18 : (makePacket (crcOf 0x11021 0 0) 0 (checkOf 0 6) 4 blank ≡ 0x3C ∷ 0x47 ∷ 0xD1 ∷ 0xAA ∷ 0xF2 ∷ 0x0D ∷ 0x52 ∷ 0x37 ∷ [])
+      × (makeCall (crcOf 0x11021 0 0) 0 (checkOf 0 6) 4 blank ≡ accepted 0xA3D95FA8)
+      × (makePacket (crcOf 0x11021 0xFFFF 0) 0 (checkOf 0 6) 4 blank ≡ 0x3C ∷ 0x47 ∷ 0xD1 ∷ 0xAA ∷ 0xF2 ∷ 0x0D ∷ 0x5C ∷ 0x27 ∷ [])

@@ -1,5 +1,5 @@
--- Where none of the maker's conditions applies, the calls stamp and seal accept the bytes drawn, and leave the packet made; and that
--- is of bytes, as many as were asked for.
+-- Where none of the maker's conditions applies, the calls stamp and seal accept the bytes yielded, and leave the packet made;
+-- and that has bytes, as many as were asked for.
 use mathlib.Core.Path.{_≡_, ap, _∙_}
 use mathlib.Core.Bool.{false}
 use Prim.Native.Nat.{ℕ, _*_, _≤_}
@@ -17,40 +17,40 @@ use Rattle.checksum.specs.Checksum.{unfitRange, stamped}
 use Rattle.checksum.specs.Calls.{stampConditions, stampCall, stampPacket}
 use Rattle.checksum.specs.declared.Check.{Check}
 use Rattle.checksum.proofs.StampLaws.{stamped-length, stamped-bytes}
-use Rattle.maker.specs.Stream.{drawn}
+use Rattle.maker.specs.Stream.{yielded}
 use Rattle.maker.specs.Calls.{made, makeConditions}
-use Rattle.maker.proofs.StreamLaws.{drawn-length, drawn-bytes}
+use Rattle.maker.proofs.StreamLaws.{yielded-length, yielded-bytes}
 
 module _ (g init xorout seed : ℕ) (k : Check) (f count : ℕ) (clear : (i : ℕ) → applied i (makeConditions (crcOf g init xorout) (8 * count) k f) ≡ false) where
-  drawn-fits : unfitLength (degree g) (bits (drawn count seed)) ≡ false
-  drawn-fits = rw (drawn-length count seed) (clear 2)
+  yielded-fits : unfitLength (degree g) (bits (yielded count seed)) ≡ false
+  yielded-fits = rw (yielded-length count seed) (clear 2)
 
-  range-fits : unfitRange (degree g) (bits (drawn count seed)) k ≡ false
-  range-fits = rw (drawn-length count seed) (clear 9)
+  range-fits : unfitRange (degree g) (bits (yielded count seed)) k ≡ false
+  range-fits = rw (yielded-length count seed) (clear 9)
 
-  stamped-fits : unfitLength (degree g) (bits (stamped k f (drawn count seed))) ≡ false
-  stamped-fits = rw (stamped-length k f (drawn count seed)) drawn-fits
+  stamped-fits : unfitLength (degree g) (bits (stamped k f (yielded count seed))) ≡ false
+  stamped-fits = rw (stamped-length k f (yielded count seed)) yielded-fits
 
-  pub stamp-accepts : stampCall g k f (drawn count seed) ≡ accepted tt
-  stamp-accepts = simp (clear 1, drawn-fits, range-fits, clear 10)
+  pub stamp-accepts : stampCall g k f (yielded count seed) ≡ accepted tt
+  stamp-accepts = simp (clear 1, yielded-fits, range-fits, clear 10)
 
-  pub made-by-calls : sealPacket (crcOf g init xorout) (stampPacket g k f (drawn count seed)) ≡ made (crcOf g init xorout) seed k f count
+  pub made-by-calls : sealPacket (crcOf g init xorout) (stampPacket g k f (yielded count seed)) ≡ made (crcOf g init xorout) seed k f count
   unfolding made
   made-by-calls =
-      let s = drawn count seed in
+      let s = yielded count seed in
       ap (sealPacket (crcOf g init xorout)) (judge-accepted (stampConditions g (bits s) k f) tt tt (λ _. s) (stamped k f s) stamp-accepts)
       ∙ simp (clear 1, stamped-fits, clear 11)
 
-  long : degree g ≤ bits (stamped k f (drawn count seed))
-  long = omega (arith, fit-length (degree g) (bits (stamped k f (drawn count seed))) stamped-fits .0)
+  long : degree g ≤ bits (stamped k f (yielded count seed))
+  long = omega (arith, fit-length (degree g) (bits (stamped k f (yielded count seed))) stamped-fits .0)
 
   pub made-length : length (made (crcOf g init xorout) seed k f count) ≡ count
   unfolding made
   made-length =
-      sealed-length (crcOf g init xorout) (fit-accepted g (clear 1) .divisor) (stamped k f (drawn count seed)) (stamped-bytes k f _ (drawn-bytes count seed)) long
-      ∙ stamped-length k f (drawn count seed)
-      ∙ drawn-length count seed
+      sealed-length (crcOf g init xorout) (fit-accepted g (clear 1) .divisor) (stamped k f (yielded count seed)) (stamped-bytes k f _ (yielded-bytes count seed)) long
+      ∙ stamped-length k f (yielded count seed)
+      ∙ yielded-length count seed
 
   pub made-bytes : Bytes (made (crcOf g init xorout) seed k f count)
   unfolding made
-  made-bytes = sealed-bytes (crcOf g init xorout) (fit-accepted g (clear 1) .divisor) (stamped k f (drawn count seed)) (stamped-bytes k f _ (drawn-bytes count seed)) long
+  made-bytes = sealed-bytes (crcOf g init xorout) (fit-accepted g (clear 1) .divisor) (stamped k f (yielded count seed)) (stamped-bytes k f _ (yielded-bytes count seed)) long

@@ -9,13 +9,13 @@ use Rattle.packet.specs.Packet.{bits, unfitLength, unfitValues, sealed}
 use Rattle.packet.specs.declared.Crc.{Crc}
 use Rattle.checksum.specs.Checksum.{unfitRange, unfitField, stamped}
 use Rattle.checksum.specs.declared.Check.{Check}
-use Rattle.maker.specs.Stream.{drawn, stateAfter}
+use Rattle.maker.specs.Stream.{yielded, stateAfter}
 use Rattle.maker.specs.declared.MakeAnswer.{MakeAnswer}
 use Rattle.maker.specs.declared.MakeAnswer.the-variants.{Made, Refused}
 
 -- the packet of so many bytes that is made from a seed: bytes of the stream, stamped and then sealed
 unfoldable pub made : Crc → ℕ → Check → ℕ → ℕ → List ℕ
-made c seed k f count = sealed c (stamped k f (drawn count seed))
+made c seed k f count = sealed c (stamped k f (yielded count seed))
 
 -- the maker is refused by 1, 2, 11, 9 and 10
 abbrev pub makeConditions : Crc → ℕ → Check → ℕ → List Condition

@@ -10,10 +10,10 @@ nextState x = (1664525 * x + 1013904223) % 2 ^ 32
 unfoldable pub byteOf : ℕ → ℕ
 byteOf x = x / 2 ^ 24
 
--- the bytes of so many steps from a state on: each step goes to the next state, which yields the byte
-unfoldable pub drawn : ℕ → ℕ → List ℕ
-drawn zero x = []
-drawn (suc k) x = byteOf (nextState x) ∷ drawn k (nextState x)
+-- the bytes yielded by so many steps from a state on: each step goes to the next state, and that yields the byte
+unfoldable pub yielded : ℕ → ℕ → List ℕ
+yielded zero x = []
+yielded (suc k) x = byteOf (nextState x) ∷ yielded k (nextState x)
 
 -- the state after so many steps
 unfoldable pub stateAfter : ℕ → ℕ → ℕ

@@ -1,4 +1,4 @@
-// The packet maker: packets that anyone can make again from a few numbers.
+// The packet maker: a few numbers, and from them the same packet every time.
 use base::Judgement;
 use base::Refusal;
 use checksum::Check;
@@ -8,7 +8,7 @@ ghost use Prim.Native.Nat.{_*_, _%_, _^_};
 ghost use lib.ListN.{length};
 ghost use Rattle.base.specs.Judged.{judgement, judged};
 ghost use Rattle.packet.specs.Packet.{crcOf};
-ghost use Rattle.maker.specs.Stream.{nextState, byteOf, drawn, stateAfter};
+ghost use Rattle.maker.specs.Stream.{nextState, byteOf, yielded, stateAfter};
 ghost use Rattle.maker.specs.Calls.{makeConditions, makeAnswer, makeCall, makePacket};
 
 pub enum MakeAnswer {
@@ -42,10 +42,10 @@ fn byte_of(state: u32) -> u8
     (state / 16777216) as u8
 }
 
-// Fills a slice with the bytes of the stream, first byte first, and tells the state that it has come to.
+// Fills a slice with the bytes of the stream, from its first byte on, and tells the state that it has come to.
 pub fn fill(packet: &mut [u8], seed: u32) -> u32
     ensures state { λ r. ⌜ r ≡ stateAfter (length (now (packet .entry))) seed ⌝ }
-    ensures bytes { λ _. ⌜ now (packet .exit) ≡ drawn (length (now (packet .entry))) seed ⌝ }
+    ensures bytes { λ _. ⌜ now (packet .exit) ≡ yielded (length (now (packet .entry))) seed ⌝ }
 {
     let mut state = seed;
     let mut i: usize = 0;
@@ -101,6 +101,7 @@ pub fn make(
         Judgement::Refused(r) => MakeAnswer::Refused(r),
         Judgement::Passed => {
             let state = fill(packet, seed);
+            // neither of these is refused: their conditions were judged above
             checksum::stamp(generator, check, field, packet);
             packet::seal(generator, init, xorout, packet);
             MakeAnswer::Made(state)

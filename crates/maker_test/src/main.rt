@@ -5,7 +5,7 @@ ghost use Prim.Native.Nat.{_<_};
 const SEEDS: [u32; 7] = [0, 1, 255, 65536, 2147483648, 4294967294, 4294967295];
 
 // What packets are made by: numbers that fit, and numbers that do not.
-const GENERATORS: [u64; 6] = [9, 53, 69665, 131071, 52, 131073];
+const GENERATORS: [u64; 5] = [9, 53, 69665, 131071, 131073];
 
 const VALUES: [u64; 4] = [0, 6, 65535, 65536];
 
@@ -17,7 +17,7 @@ const STARTS: [usize; 10] = [0, 0, 1, 0, 0, 2, 0, 0, 4, 18446744073709551614];
 
 const ENDS: [usize; 10] = [2, 6, 6, 62, 510, 2, 6, 6, 6, 18446744073709551615];
 
-const FIELDS: [usize; 10] = [0, 4, 3, 30, 508, 2, 1, 5, 2, 18446744073709551615];
+const FIELDS: [usize; 10] = [0, 4, 3, 30, 508, 2, 1, 6, 2, 18446744073709551615];
 
 // The first states after a seed.
 fn show_states(seed: u32) {
@@ -55,7 +55,7 @@ fn show_answer(answer: MakeAnswer) {
 
 // The answer of call k; the hash goes on over the packet that it leaves.
 fn make(k: usize, before: u64, packet: &mut [u8]) -> u64
-    requires { ⌜ k < 5760 ⌝ }
+    requires { ⌜ k < 4800 ⌝ }
 {
     let answer = maker::make(
         GENERATORS[k / 960],
@@ -72,7 +72,7 @@ fn make(k: usize, before: u64, packet: &mut [u8]) -> u64
 
 // The same in a packet of its own length.
 fn show_call(k: usize, before: u64) -> u64
-    requires { ⌜ k < 5760 ⌝ }
+    requires { ⌜ k < 4800 ⌝ }
 {
     let mut space = [170u8; 513];
     let n = io::count(LENGTHS[k / 160 % 6], &space);
@@ -83,7 +83,7 @@ fn show_call(k: usize, before: u64) -> u64
 fn show_calls() {
     let mut h = testkit::UNMIXED;
     let mut k: usize = 0;
-    while k < 5760 {
+    while k < 4800 {
         h = show_call(k, h);
         if k % 40 == 39 {
             testkit::print_number(h, b'\n');

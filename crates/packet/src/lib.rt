@@ -182,7 +182,7 @@ fn add_low(packet: &mut [u8], value: u64)
     }
 }
 
-// The conditions of remainder and seal, in their order.
+// The conditions of remainder and seal, in their order; others begin with these.
 pub fn judge_packet(generator: u64, init: u64, xorout: u64, len: usize) -> Judgement
     ensures { λ r. ⌜ judgement r ≡ judged (packetConditions (crcOf generator init xorout) (8 * len)) ⌝ }
 {

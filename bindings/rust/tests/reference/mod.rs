@@ -227,12 +227,12 @@ pub fn stamp(generator: u64, start: usize, end: usize, field: usize, packet: &mu
 
 // ---- the packet maker
 
-/// The states after a seed: each is 1664525 times the one before plus 1013904223, modulo 2^32.
-pub fn states(seed: u32) -> impl Iterator<Item = u32> {
+/// The states after a seed, on numbers that do not wrap.
+fn states(seed: u32) -> impl Iterator<Item = u32> {
     let mut state = u128::from(seed);
-    std::iter::from_fn(move || {
+    std::iter::repeat_with(move || {
         state = (1664525 * state + 1013904223) % (1 << 32);
-        u32::try_from(state).ok()
+        u32::try_from(state).expect("a remainder modulo 2^32")
     })
 }
 

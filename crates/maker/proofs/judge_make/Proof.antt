@@ -19,8 +19,8 @@ use Rattle.maker.proofs.judge_make.Tie as tie
 abbrev conditions : tie.Start → List Condition
 conditions s = makeConditions (crcOf (s .args .generator) (s .args .init) (s .args .xorout)) (8 * s .args .len) (s .args .check) (s .args .field)
 
-abbrev first : tie.Start → List Condition
-first s = packetConditions (crcOf (s .args .generator) (s .args .init) (s .args .xorout)) (8 * s .args .len)
+abbrev shared : tie.Start → List Condition
+shared s = packetConditions (crcOf (s .args .generator) (s .args .init) (s .args .xorout)) (8 * s .args .len)
 
 abbrev entry : tie.After-of → tie.Start
 entry c = c .before .before .before .before
@@ -28,7 +28,7 @@ entry c = c .before .before .before .before
 -- what is left to test, past the first three and past the range
 left3 : (c : tie.After-of) → Untested (conditions (entry c)) (drop 3 (conditions (entry c)))
 left3 c =
-    let clear = none-applies (first (entry c)) (c .before .before .before .judge-packet .ensures) (c .before .enum-told .given .1) in
+    let clear = none-applies (shared (entry c)) (c .before .before .before .judge-packet .ensures) (c .before .enum-told .given .1) in
     but (but (but (all refl) refl (clear 1)) refl (clear 2)) refl (clear 11)
 
 tested4 : (c : tie.After-unfit-range) → let a = entry (c .before) .args in c .unfit-range .result ≡ unfitRange (degree (a .generator)) (8 * a .len) (a .check)
@@ -42,7 +42,7 @@ left4 c = but (left3 (c .before .before)) (tested4 (c .before)) (c .if1 .left)
 returns : tie.Need-returns
 returns c =
     let j = c .before .before .before in
-    sym (turned-down (first (j .before)) (j .judge-packet .ensures) (c .before .judged .given .1) refused (judged (drop 3 (conditions (j .before)))))
+    sym (turned-down (shared (j .before)) (j .judge-packet .ensures) (c .before .judged .given .1) refused (judged (drop 3 (conditions (j .before)))))
 
 returns-2 : tie.Need-returns-2
 returns-2 c = stops (left3 (c .before .before)) (tested4 (c .before)) (c .if1 .taken)

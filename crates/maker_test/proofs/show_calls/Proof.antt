@@ -5,10 +5,10 @@ use Rattle.maker_test.proofs.show_calls.Statement.{statement}
 use Rattle.maker_test.proofs.show_calls.Tie as tie
 
 abbrev Inv-loop : tie.InvT-loop
-Inv-loop h₀ k₀ h k = k ≤ 5760
+Inv-loop h₀ k₀ h k = k ≤ 4800
 
 abbrev μ-loop : tie.MeasureT-loop
-μ-loop h₀ k₀ h k = 5760 - k
+μ-loop h₀ k₀ h k = 4800 - k
 
 pub show-calls-spec : {M : Type 1} → statement M
 show-calls-spec =
