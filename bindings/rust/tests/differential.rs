@@ -465,6 +465,16 @@ fn sum_is_that_of_rfc_1071() {
     }
 }
 
+/// A range and a field, often fit for so many bytes.
+fn any_place(random: &mut Random, len: usize) -> (usize, usize, usize) {
+    let mut place = |near: usize| match random.below(12) {
+        0 => random.pick(&HUGE),
+        1 => random.within(0, len + 4),
+        _ => random.within(0, near),
+    };
+    (place(len / 2), place(len), place(len))
+}
+
 #[test]
 fn stamp_makes_the_range_pass() {
     let mut random = Random::new(4);
@@ -473,14 +483,7 @@ fn stamp_makes_the_range_pass() {
         let generator = some_generator(&mut random);
         let len = some_bytes(&mut random);
         let packet = random.packet(len);
-        let mut place = |near: usize| match random.below(12) {
-            0 => random.pick(&HUGE),
-            1 => random.within(0, len + 4),
-            _ => random.within(0, near),
-        };
-        let start = place(len / 2);
-        let end = place(len);
-        let field = place(len);
+        let (start, end, field) = any_place(&mut random, len);
         let mut stamped = packet.clone();
         let number = reference::stamp(generator, start, end, field, &mut stamped).err().unwrap_or(0);
         refused[number as usize] += 1;
@@ -542,12 +545,7 @@ fn make_fills_stamps_and_seals() {
         let crc = some_crc(&mut random);
         let len = some_bytes(&mut random);
         let before = random.packet(len);
-        let mut place = |near: usize| match random.below(12) {
-            0 => random.pick(&HUGE),
-            1 => random.within(0, len + 4),
-            _ => random.within(0, near),
-        };
-        let (start, end, field) = (place(len / 2), place(len), place(len));
+        let (start, end, field) = any_place(&mut random, len);
         let call = MakeCall { crc, seed: some_seed(&mut random), start, end, field };
         refused[compare_make(&call, &before) as usize] += 1;
     }
@@ -556,8 +554,8 @@ fn make_fills_stamps_and_seals() {
     }
 }
 
-/// A range with a field, for a CRC of n bits behind it.
-fn some_place(random: &mut Random, len: usize, n: usize) -> (usize, usize, usize) {
+/// A range and a field that fit, for a CRC of n bits.
+fn fit_place(random: &mut Random, len: usize, n: usize) -> (usize, usize, usize) {
     let end = random.within(2, (8 * len - n) / 8);
     let start = random.within(0, end - 2);
     (start, end, start + 2 * random.within(0, (end - start - 2) / 2))
@@ -574,7 +572,7 @@ fn make_refuses_by_the_first_that_applies() {
             let generator = random.generator(degree);
             let mut crc = random.values(generator);
             let room = random.within(n.div_ceil(8) + 2, 40);
-            let (mut start, mut end, mut field) = some_place(&mut random, room, n);
+            let (mut start, mut end, mut field) = fit_place(&mut random, room, n);
             if broken.has(10) {
                 let huge = random.pick(&HUGE);
                 field = random.pick(&[start + 1, end - 1, end, end + 1, start.wrapping_sub(2), huge]);
@@ -608,7 +606,7 @@ fn every_packet_made_is_intact() {
         let n = reference::degree(generator);
         let crc = random.values(generator);
         let len = random.within(n.div_ceil(8) + 2, if round % 4 == 0 { 512 } else { 40 });
-        let (start, end, field) = some_place(&mut random, len, n);
+        let (start, end, field) = fit_place(&mut random, len, n);
         let call = MakeCall { crc, seed: some_seed(&mut random), start, end, field };
         let (number, packet, _) = common::make(&call, &vec![0; len]);
         assert_eq!(number, 0, "{call:?}");
