@@ -355,7 +355,7 @@ uint32_t rangqoda_stamp(uint64_t generator,
  *
  * For more packets pass the state as the next seed. Seeds that follow each
  * other are a poor choice for trials: most give the same first byte as their
- * neighbours, and later bytes at fixed distances from theirs.
+ * neighbours, and later bytes at fixed distances from theirs, give or take 1.
  */
 uint32_t rangqoda_make(uint64_t generator, uint64_t initial, uint64_t final,
                        uint32_t seed, size_t start, size_t end, size_t field,

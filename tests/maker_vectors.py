@@ -74,7 +74,7 @@ def made(generator, initial, final, seed, start, end, field, length):
     return packet
 
 
-# the first states after 0 as "Numerical Recipes in C" prints them (second edition, section 7.1)
+# the first states after 0, written out; docs/DECISIONS.md says where they are from
 assert states(0, 11) == [
     0x3C6EF35F, 0x47502932, 0xD1CCF6E9, 0xAAF95334, 0x6252E503, 0x9F2EC686,
     0x57FE6C2D, 0xA3D95FA8, 0x81FDBEE7, 0x94F0AF1A, 0xCBF633B1,

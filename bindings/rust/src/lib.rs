@@ -457,7 +457,7 @@ pub fn stamp(generator: u64, range: Range<usize>, field: usize, packet: &mut [u8
 /// packet has bytes. A repair of the packet by the same CRC and range says [`Verdict::Intact`].
 ///
 /// For more packets pass the state as the next seed. Seeds that follow each other are a poor choice for trials: most give the
-/// same first byte as their neighbours, and later bytes at fixed distances from theirs.
+/// same first byte as their neighbours, and later bytes at fixed distances from theirs, give or take 1.
 ///
 /// ```
 /// use rangqoda::{catalogue::CRC_16_XMODEM, make};

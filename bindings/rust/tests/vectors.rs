@@ -118,9 +118,9 @@ fn packets_made_from_seed_0() {
     }
 }
 
-/// The states after 0 that "Numerical Recipes in C" prints (second edition, section 7.1): from each the later ones follow.
+/// The first states after 0, written out (`docs/DECISIONS.md` says where they are from): from each the later ones follow.
 #[test]
-fn the_published_states_of_the_stream() {
+fn the_first_states_of_the_stream() {
     let states = [
         0, 0x3C6EF35F, 0x47502932, 0xD1CCF6E9, 0xAAF95334, 0x6252E503, 0x9F2EC686, 0x57FE6C2D, 0xA3D95FA8, 0x81FDBEE7,
         0x94F0AF1A, 0xCBF633B1,
