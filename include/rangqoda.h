@@ -2,10 +2,10 @@
  * rangqoda.h - error correction from CRCs, for packets of up to 512 bytes
  *
  * A packet ends in a CRC and carries an Internet checksum (RFC 1071) over a
- * part of its bytes. The library takes remainders and seals packets, sums and
- * stamps them, makes packets from a seed, lists all sets of at most so many bit
- * errors that explain a remainder, and repairs a packet where the checksum
- * leaves just one of them.
+ * part of its bytes, or none. The library takes remainders and seals packets,
+ * sums and stamps them, makes packets from a seed, lists all sets of at most so
+ * many bit errors that explain a remainder, and repairs a packet where the
+ * checksum leaves just one of them.
  *
  * Link with librangqoda.a (x86-64 Linux). Nothing is allocated, kept between
  * calls or shared: calls on different memory may run at the same time. A page
@@ -41,9 +41,13 @@
  *   sum        RFC 1071's: bytes as 16-bit numbers, high byte first, with a
  *              zero behind an odd one, and carries added back in. There is no
  *              pseudo-header. The sum of nothing is 0.
- *   range      The bytes [start, end) of a packet. Accepted: start < end and
+ *   range      The bytes [start, end) of a packet. Accepted: start <= end and
  *              8 * end <= L - n, so that it has no bit of the CRC. A range
- *              passes where its sum is FFFFh.
+ *              passes where its sum is FFFFh: that is the second check. A range
+ *              with start = end says that the packet carries no checksum. Then
+ *              there is no second check, and a packet passes both where it
+ *              passes the CRC. RANGQODA_NO_CHECKSUM is such a range, and is
+ *              accepted with every length.
  *
  *
  * Answers
@@ -65,7 +69,7 @@
  *       positions than the limit; or bytes that are no mark (see below)
  *    8  output: of a page, below 9 bytes; of a repair, not as long as the
  *       packet, or a verdict not of RANGQODA_VERDICT_BYTES
- *    9  range not accepted
+ *    9  start > end, or 8 * end > L - n
  *   10  field not whole in the range, or not an even number of bytes from its
  *       start
  *   11  initial or final value 2^n or more
@@ -130,6 +134,10 @@
  * Of packets that are noise at most this part is repaired, on average:
  *
  *   (sets of at most N positions among L) / 2^n / 65535
+ *
+ * and where there is no checksum,
+ *
+ *   (sets of at most N positions among L) / 2^n
  *
  * With RANGQODA_CCITT and 64 bytes (L = 512) that is 1 in 33,000 at N = 2, 1
  * in 190 at N = 3 and 2 in 3 at N = 4. Counted: 18 of 400,000 at N = 2, 66 of
@@ -259,6 +267,10 @@ extern "C" {
 #define RANGQODA_CRC_16_UMTS           0x18005u, 0x0000u, 0x0000u
 #define RANGQODA_CRC_16_XMODEM         0x11021u, 0x0000u, 0x0000u
 
+/* The range of a packet that carries no checksum: start and end. Like the name
+   of a CRC it is no expression, and stands for its arguments. */
+#define RANGQODA_NO_CHECKSUM 0u, 0u
+
 /* The numbers of the conditions above. */
 #define RANGQODA_ACCEPTED 0u
 #define RANGQODA_REFUSED_GENERATOR 1u
@@ -328,7 +340,8 @@ uint16_t rangqoda_sum(const uint8_t *bytes, size_t len);
  * start, end and field are places of bytes in the packet, counted from 0. A
  * packet that is to be sealed too is stamped first.
  *
- * Refused by 1, 2, 9, 10. Changes no byte but the two of the field.
+ * Refused by 1, 2, 9, 10. Changes no byte but the two of the field. A range with
+ * start = end has no field, and is refused by 10.
  */
 uint32_t rangqoda_stamp(uint64_t generator,
                         size_t start, size_t end, size_t field,
@@ -344,9 +357,10 @@ uint32_t rangqoda_stamp(uint64_t generator,
  * of that are the next byte, from the first one on. Any seed will do. The first
  * byte that seed 0 yields is 3Ch.
  *
- * Refused by 1, 2, 11, 9, 10. Otherwise writes all bytes of packet, and into
- * *state the state after packet_len steps. A repair of the packet by the same
- * CRC and range says RANGQODA_INTACT.
+ * Refused by 1, 2, 11, 9, 10; by 10 where start = end, since there is no field
+ * then. Otherwise writes all bytes of packet, and into *state the state after
+ * packet_len steps. A repair of the packet by the same CRC and range says
+ * RANGQODA_INTACT.
  *
  * A footnote "CRC-16/XMODEM, 16 bytes, checksum over bytes 0 to 13 at byte 12,
  * seed 7" is the call
@@ -414,12 +428,15 @@ uint32_t rangqoda_page(uint64_t generator, size_t length, size_t limit,
                        size_t *used, uint64_t *written);
 
 /*
- * Repairs a packet whose range [start, end) carries a checksum.
+ * Repairs a packet whose range [start, end) carries a checksum, or one that
+ * carries none, start and end being the same.
  *
- *   RANGQODA_INTACT    the remainder is 0 and the range passes
+ *   RANGQODA_INTACT    the remainder is 0 and the range passes; without a
+ *                      checksum, the remainder is 0
  *
  * Otherwise the list for the packet's length, its remainder and the limit is
- * taken. A pattern of it passes if flipping those bits makes the range pass.
+ * taken. A pattern of it passes if flipping those bits makes the range pass;
+ * without a checksum, each one does.
  *
  *   RANGQODA_REPAIRED  just one passes; output holds the flipped packet (see
  *                      "What a repair does not tell" above)
@@ -431,6 +448,13 @@ uint32_t rangqoda_page(uint64_t generator, size_t length, size_t limit,
  *
  * Refused by 1, 2, 11, 3, 5, 6, 8, 9. Otherwise writes all bytes of verdict.
  * output changes for RANGQODA_REPAIRED only.
+ *
+ * A packet without a checksum is repaired by
+ *
+ *   rangqoda_repair(RANGQODA_CRC_16_XMODEM, RANGQODA_NO_CHECKSUM, limit, ...)
+ *
+ * Take care that a range that was computed is not empty by mistake: it is not
+ * refused.
  */
 uint32_t rangqoda_repair(uint64_t generator, uint64_t initial, uint64_t final,
                          size_t start, size_t end, size_t limit,

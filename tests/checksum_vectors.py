@@ -8,7 +8,7 @@ Python's integers. Nothing here is taken from the library. Run it from anywhere:
 """
 from pathlib import Path
 
-from reference import CCITT, FIVE, degree_of, divide, filled, unfit_generator, unfit_length
+from reference import CCITT, FIVE, divide, filled, unfit_field, unfit_generator, unfit_length, unfit_range
 
 TARGET = Path(__file__).resolve().parent.parent / "crates" / "checksum_test" / "stdout"
 
@@ -31,9 +31,9 @@ def stamp(generator, a, e, field, packet):
         return 1
     if unfit_length(generator, length):
         return 2
-    if not (a < e and 8 * e <= length - degree_of(generator)):
+    if unfit_range(generator, length, a, e):
         return 9
-    if not a <= field <= e - 2 or (field - a) % 2:
+    if unfit_field(a, e, field):
         return 10
     packet[field : field + 2] = bytes(2)
     packet[field : field + 2] = (0xFFFF - sum_of(packet[a:e])).to_bytes(2, "big")

@@ -9,8 +9,8 @@ from anywhere:
 """
 from pathlib import Path
 
-from reference import CCITT, FIVE, checksum, degree_of, filled, fnv, next_state, remainder_of
-from reference import unfit_generator, unfit_length, unfit_values
+from reference import CCITT, FIVE, checksum, filled, fnv, next_state, remainder_of
+from reference import unfit_field, unfit_generator, unfit_length, unfit_range, unfit_values
 
 TARGET = Path(__file__).resolve().parent.parent / "crates" / "maker_test" / "stdout"
 
@@ -56,9 +56,9 @@ def refusal(generator, initial, final, start, end, field, length):
         return 2
     if unfit_values(generator, initial, final):
         return 11
-    if not (start < end and 8 * end <= 8 * length - degree_of(generator)):
+    if unfit_range(generator, 8 * length, start, end):
         return 9
-    if not start <= field <= end - 2 or (field - start) % 2:
+    if unfit_field(start, end, field):
         return 10
     return 0
 

@@ -47,6 +47,16 @@ def unfit_values(generator, initial, final):
     return max(initial, final) >= 2 ** degree_of(generator)
 
 
+def unfit_range(generator, bits, start, end):
+    """Condition 9."""
+    return start > end or 8 * end > bits - degree_of(generator)
+
+
+def unfit_field(start, end, field):
+    """Condition 10."""
+    return not start <= field <= end - 2 or (field - start) % 2 == 1
+
+
 def checksum(data):
     """RFC 1071: big-endian words, a zero byte at an odd end, the carries folded back."""
     data = bytes(data) + bytes(len(data) % 2)
@@ -54,6 +64,11 @@ def checksum(data):
     while total > 0xFFFF:
         total = total % 0x10000 + total // 0x10000
     return total
+
+
+def passes(packet, start, end):
+    """The second check: there is none where the range begins and ends at one place."""
+    return start == end or checksum(packet[start:end]) == 0xFFFF
 
 
 def next_state(state):

@@ -13,7 +13,8 @@ from itertools import combinations, product
 from pathlib import Path
 from random import Random
 
-from reference import CCITT, FIVE, checksum, degree_of, divide, filled, fnv, remainder_of, unfit_generator, unfit_length, unfit_values
+from reference import CCITT, FIVE, checksum, degree_of, divide, filled, fnv, passes, remainder_of
+from reference import unfit_generator, unfit_length, unfit_range, unfit_values
 
 TARGET = Path(__file__).resolve().parent.parent / "crates" / "repair_test"
 THREE, EIGHT = 11, 0x107  # degrees 3 and 8
@@ -72,11 +73,11 @@ def verdict(generator, a, e, limit, packet, values=(0, 0)):
     """The verdict: its kind, and the patterns that pass."""
     bits = 8 * len(packet)
     syndrome = remainder_of(packet, generator, *values)
-    if syndrome == 0 and checksum(packet[a:e]) == 0xFFFF:
+    if syndrome == 0 and passes(packet, a, e):
         return "intact", []
     small = bits <= SMALL
     listed = every_pattern(generator, bits, limit).get(syndrome, []) if small else looked_up(generator, bits, limit, syndrome)
-    passing = [p for p in listed if checksum(flip(packet, p)[a:e]) == 0xFFFF]
+    passing = [p for p in listed if passes(flip(packet, p), a, e)]
     return ("none", "repaired", "several")[min(len(passing), 2)], passing
 
 
@@ -113,7 +114,7 @@ class Group:
             return 6
         if room != len(packet):
             return 8
-        return 0 if a < e and 8 * e <= bits - degree else 9
+        return 9 if unfit_range(generator, bits, a, e) else 0
 
     def line(self, generator, values, a, e, limit, packet, room):
         """What the program prints for one call."""
@@ -125,7 +126,7 @@ class Group:
         kinds[kind] = kinds.get(kind, 0) + 1
         copy = flip(packet, passing[0]) if kind == "repaired" else before
         published = {"intact": packet, "repaired": copy}.get(kind, b"")
-        shown = {"repaired": "".join(f"{p} " for p in (passing or [()])[0]), "several": f"{len(passing)} 0 65535 "}
+        shown = {"repaired": "".join(f"{p} " for p in (passing or [()])[0]), "several": f"{len(passing)} 0 {0 if a == e else 65535} "}
         return f"{kind} {shown.get(kind, '')}{fnv(copy)} {len(published)} {fnv(published)}"
 
     def add(self, a, e, limit, packet, first=0, count=0, room=None, generator=None, seed=None, values=(0, 0)):
@@ -139,13 +140,17 @@ class Group:
             self.expected.append(self.line(generator, values, a, e, limit, flip(packet, positions), room))
 
 
+def sealed(packet, generator, values=(0, 0)):
+    return (int.from_bytes(packet, "big") ^ remainder_of(packet, generator, *values)).to_bytes(len(packet), "big")
+
+
 def sent(generator, length, a, e, values=(0, 0)):
     """A packet that passes both checks: random bytes, stamped at a word of the range, then sealed."""
     packet = bytearray(random.randbytes(length))
     field = a + 2 * random.randrange((e - a) // 2)
     packet[field : field + 2] = bytes(2)
     packet[field : field + 2] = (0xFFFF - checksum(bytes(packet[a:e]))).to_bytes(2, "big")
-    packet = (int.from_bytes(packet, "big") ^ remainder_of(packet, generator, *values)).to_bytes(length, "big")
+    packet = sealed(packet, generator, values)
     assert remainder_of(packet, generator, *values) == 0 and checksum(packet[a:e]) == 0xFFFF
     return packet
 
@@ -170,6 +175,10 @@ def worked_by_hand():
     for text, limits in (("FFFF05", (1, 2, 3, 4)), ("7FFF05", (1,)), ("FFFF06", (1, 2))):
         for limit in limits:
             five.add(0, 2, limit, bytes.fromhex(text))
+    rows = {"7FFE05": ("intact", []), "7FFF05": ("several", [(8,), (23,)]), "FFFD05": ("repaired", [(9,)]), "FFFF06": ("none", [])}
+    for text, row in rows.items():
+        assert verdict(FIVE, 0, 0, 1, bytes.fromhex(text)) == row
+        five.add(0, 0, 1, bytes.fromhex(text))
 
 
 def sent_and_damaged():
@@ -263,6 +272,32 @@ def with_values():
         ccitt.add(0, 1, 2, random.randbytes(3), 0, 24, values=values)
 
 
+def without_a_checksum():
+    """Packets that carry none, so sealed only: every place for the range, those that reach into the CRC too; and with each bit
+    flipped. The lists must have no, one and many patterns."""
+    counts = set()
+    for generator, length in ((FIVE, 3), (FIVE, 6), (CCITT, 4), (CCITT, 6), (THREE, 3), (EIGHT, 4)):
+        group = Group(generator)
+        bits, end = 8 * length, last_end(generator, length)
+        packet = sealed(random.randbytes(length), generator)
+        assert not passes(packet, 0, end)
+        for place, limit in product(range(length + 2), (1, 2, 3)):
+            group.add(place, place, limit, flip(packet, random.sample(range(bits), place % (limit + 2))))
+        for limit in (1, 2, 3):
+            group.add(end, end, limit, packet, 0, bits)
+            counts.update(min(len(verdict(generator, 0, 0, limit, flip(packet, (p,)))[1]), 3) for p in range(bits))
+            group.add(0, 0, limit, flip(packet, random.sample(range(bits), 2)), 0, bits)
+            counts.update(min(len(verdict(generator, 0, 0, limit, random.randbytes(length))[1]), 3) for _ in range(9))
+        for values in ((3, 0), (0, 5), (7, 7)):
+            group.add(1, 1, 2, random.randbytes(length), values=values)
+    assert counts == {0, 1, 2, 3}, counts
+    ccitt = Group(CCITT)
+    for length, limit in ((64, 1), (64, 2), (64, 3), (512, 1), (512, 2)):
+        packet = sealed(random.randbytes(length), CCITT)
+        ccitt.add(length - 2, length - 2, limit, flip(packet, random.sample(range(8 * length), limit - 1)), 40, 3)
+        ccitt.add(length - 1, length - 1, limit, packet)
+
+
 def refused_in_order():
     """Every choice of the eight conditions: the first of those that apply is the answer."""
     packet = bytes.fromhex("7FFF05")
@@ -321,6 +356,7 @@ long_packets()
 with_values()
 refused_in_order()
 refused_at_the_edges()
+without_a_checksum()
 
 text = "\n".join([str(len(groups)), *(line for group in groups for line in (group.head(), *group.given))]) + "\n"
 lines = [line for group in groups for line in group.expected]

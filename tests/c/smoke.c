@@ -294,7 +294,7 @@ static void unmade(void)
 {
     static const uint32_t order[] = { 1, 2, 11, 9, 10 };
     static const uint64_t unfit[][2] = { { 32, 31 }, { 31, 32 }, { (uint64_t)1 << 32 | 31, 31 }, { 31, (uint64_t)1 << 32 } };
-    static const size_t ranges[][2] = { { 0, 8 }, { 7, 7 }, { 0, ((size_t)1 << 32) + 7 }, { (size_t)1 << 32, 7 } };
+    static const size_t ranges[][2] = { { 0, 8 }, { 8, 8 }, { 0, ((size_t)1 << 32) + 7 }, { (size_t)1 << 32, 7 } };
     static const size_t fields[] = { 1, 6, ((size_t)1 << 32) + 4, (size_t)-2 };
     static const uint8_t nines[8] = { 9, 9, 9, 9, 9, 9, 9, 9 };
 
@@ -428,6 +428,72 @@ static void repairs(void)
     EXPECT(verdict[0] == RANGQODA_REPAIRED && memcmp(output, intact, 3) == 0);
 }
 
+/* Packets without a checksum: every damage of up to two bits in three bytes, at every place for the range, against the list that
+   the page call gives; and no field for stamp and maker. */
+static void no_checksum(void)
+{
+    static const uint8_t sent[3] = { 0x7F, 0xFE, 0x05 };
+    uint8_t verdict[RANGQODA_VERDICT_BYTES], output[3] = { 1, 2, 3 }, packet[3];
+    uint64_t period, left, wrong = 0, kinds[4] = { 0 };
+    uint32_t state = 77;
+
+    EXPECT(rangqoda_tables(RANGQODA_FIVE, step, 32, first, 32, &period) == RANGQODA_ACCEPTED);
+    EXPECT(rangqoda_repair(RANGQODA_FIVE, 0, 0, RANGQODA_NO_CHECKSUM, 1, step, 32, first, 32, sent, 3, output, 3, verdict,
+                           sizeof verdict) == RANGQODA_ACCEPTED);
+    EXPECT(verdict[0] == RANGQODA_INTACT && verdict[8] == 0 && output[0] == 1);
+    EXPECT(rangqoda_repair(RANGQODA_FIVE, 0, 0, 0, 2, 1, step, 32, first, 32, sent, 3, output, 3, verdict,
+                           sizeof verdict) == RANGQODA_ACCEPTED);
+    EXPECT(verdict[0] != RANGQODA_INTACT);
+    for (unsigned k = 0; k < 24 * 25 * 3 * 4; k++) {
+        /* 24 is no position: one flip alone */
+        unsigned p = k % 24, q = k / 24 % 25, place = k / 600 % 3, limit = 1 + k / 1800;
+        uint8_t mark[RANGQODA_MARK_BYTES] = { RANGQODA_MARK_START }, right = RANGQODA_INTACT, records[RANGQODA_RECORD_BYTES];
+        uint64_t written, listed = 0;
+        size_t used;
+
+        memcpy(packet, sent, 3);
+        packet[2 - p / 8] = (uint8_t)(packet[2 - p / 8] ^ 1u << p % 8);
+        if (q < 24)
+            packet[2 - q / 8] = (uint8_t)(packet[2 - q / 8] ^ 1u << q % 8);
+        wrong += rangqoda_remainder(RANGQODA_FIVE, 0, 0, packet, 3, &left) != 0;
+        while (left != 0 && mark[0] != RANGQODA_MARK_ENDED) {
+            if (rangqoda_page(RANGQODA_FIVE, 24, limit, left, step, 32, first, 32, mark, sizeof mark, records, sizeof records,
+                              &used, &written) != 0)
+                break;
+            listed += written;
+            right = listed == 0 ? RANGQODA_NONE : listed == 1 ? RANGQODA_REPAIRED : RANGQODA_SEVERAL;
+        }
+        memset(output, 0xAA, 3);
+        wrong += rangqoda_repair(RANGQODA_FIVE, 0, 0, place, place, limit, step, 32, first, 32, packet, 3, output, 3, verdict,
+                                 sizeof verdict) != 0;
+        wrong += verdict[0] != right || verdict[7] * 256u + verdict[8] != listed;
+        wrong += right == RANGQODA_NONE && (p == q || q == 24 || limit > 1);
+        wrong += right == RANGQODA_REPAIRED ? rangqoda_remainder(RANGQODA_FIVE, 0, 0, output, 3, &left) != 0 || left != 0
+                                            : output[0] != 0xAA || output[1] != 0xAA || output[2] != 0xAA;
+        wrong += right == RANGQODA_REPAIRED && memcmp(output, sent, 3) != 0;
+        kinds[right & 3]++;
+    }
+    EXPECT(wrong == 0);
+    EXPECT(kinds[0] > 0 && kinds[1] > 0 && kinds[2] > 0 && kinds[3] > 0);
+
+    verdict[0] = 77;
+    EXPECT(rangqoda_repair(RANGQODA_FIVE, 0, 0, 3, 3, 1, step, 32, first, 32, sent, 3, output, 3, verdict,
+                           sizeof verdict) == RANGQODA_REFUSED_RANGE);
+    EXPECT(rangqoda_repair(RANGQODA_FIVE, 0, 0, SIZE_MAX, SIZE_MAX, 1, step, 32, first, 32, sent, 3, output, 3, verdict,
+                           sizeof verdict) == RANGQODA_REFUSED_RANGE);
+    EXPECT(rangqoda_repair(RANGQODA_FIVE, 0, 0, 1, 0, 1, step, 32, first, 32, sent, 3, output, 3, verdict,
+                           sizeof verdict) == RANGQODA_REFUSED_RANGE);
+    EXPECT(verdict[0] == 77);
+    memcpy(packet, sent, 3);
+    EXPECT(rangqoda_stamp(RANGQODA_FIVE, RANGQODA_NO_CHECKSUM, 0, packet, 3) == RANGQODA_REFUSED_FIELD);
+    EXPECT(rangqoda_stamp(RANGQODA_FIVE, 2, 2, 2, packet, 3) == RANGQODA_REFUSED_FIELD);
+    EXPECT(rangqoda_stamp(RANGQODA_FIVE, 3, 3, 3, packet, 3) == RANGQODA_REFUSED_RANGE);
+    EXPECT(rangqoda_make(RANGQODA_FIVE, 0, 0, 5, RANGQODA_NO_CHECKSUM, 0, packet, 3, &state) == RANGQODA_REFUSED_FIELD);
+    EXPECT(rangqoda_make(RANGQODA_FIVE, 0, 0, 5, 3, 3, 0, packet, 3, &state) == RANGQODA_REFUSED_RANGE);
+    EXPECT(rangqoda_make(RANGQODA_FIVE, 32, 0, 5, 3, 3, 0, packet, 3, &state) == RANGQODA_REFUSED_VALUES);
+    EXPECT(state == 77 && memcmp(packet, sent, 3) == 0);
+}
+
 int main(void)
 {
     remainder_and_seal();
@@ -442,6 +508,7 @@ int main(void)
     tables();
     pages();
     repairs();
+    no_checksum();
     printf("%d checks, %d failed\n", checks, failures);
     return failures != 0;
 }

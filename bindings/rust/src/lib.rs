@@ -1,9 +1,9 @@
 //! Error correction from CRCs, for packets of up to 512 bytes.
 //!
-//! A packet ends in a CRC and carries an Internet checksum (RFC 1071) over a part of its bytes. This crate takes
-//! [`remainder`]s and [`seal`]s packets, [`sum`]s and [`stamp`]s them, [`make`]s packets from a seed, lists all sets of at most
-//! so many bit errors that explain a remainder ([`page`], [`Tables::patterns`]), and [`repair`]s a packet where the checksum
-//! leaves just one of them.
+//! A packet ends in a CRC and carries an Internet checksum (RFC 1071) over a part of its bytes, or none ([`NO_CHECKSUM`]). This
+//! crate takes [`remainder`]s and [`seal`]s packets, [`sum`]s and [`stamp`]s them, [`make`]s packets from a seed, lists all sets
+//! of at most so many bit errors that explain a remainder ([`page`], [`Tables::patterns`]), and [`repair`]s a packet where the
+//! checksum leaves just one of them.
 //!
 //! It is a safe wrapper over the C functions of a library whose every function is proved to meet its contract. The
 //! wrapper itself is not proved; it judges nothing, and passes every number, length and slice on as it got it. Whatever is
@@ -21,7 +21,8 @@
 //! - A *pattern* is a set of at most four positions: bits that may have flipped. The *list* for a generator, L, a limit N
 //!   and a syndrome has all patterns below L with that syndrome and at most N positions. Small patterns stand before large
 //!   ones; those of one size go by their smallest positions, the lower first, then by the next smallest, and so on.
-//! - A *range* `start..end` of packet bytes *passes* where its sum is FFFFh. Accepted: start < end and 8 end ≤ L - n.
+//! - A *range* `start..end` of packet bytes *passes* where its sum is FFFFh. Accepted: start ≤ end and 8 end ≤ L - n. A range with
+//!   start = end says that the packet carries no checksum: there is no second check then, and every packet passes it.
 //!
 //! # Which CRC this is
 //!
@@ -47,7 +48,7 @@
 //! N bits flipped, that is the packet sent. If more did, it may be a wrong packet, and nothing in the verdict shows it.
 //!
 //! Of packets that are noise at most this part is repaired, on average: the sets of at most N positions among L, divided by
-//! 2^n and by 65,535. With [`CCITT`] and 64 bytes that is 1 in 33,000 at N = 2, 1 in 190 at N = 3 and 2 in 3 at N = 4. Packets
+//! 2^n and by 65,535 (by 2^n alone where there is no checksum). With [`CCITT`] and 64 bytes that is 1 in 33,000 at N = 2, 1 in 190 at N = 3 and 2 in 3 at N = 4. Packets
 //! with a few more flips than N are worse than noise, since they lie close to others that pass: of 64 bytes with four
 //! flipped bits 288 of 100,000 were falsely repaired at N = 2. And a greater N repairs less, since several sets pass more
 //! often. The example `trials` counts all this. So choose the least N that the channel needs, publish it beside the number
@@ -101,6 +102,12 @@ pub const CCITT: u64 = 0x11021;
 
 /// The entry of a first-position table where no power of x leaves the remainder.
 pub const NO_POSITION: u16 = 65535;
+
+/// The range of a packet that carries no checksum, accepted with every length: a repair then goes by the CRC alone. Any other
+/// range with start = end says the same. So take care that a range that was computed is not empty by mistake.
+///
+/// Without a checksum false repairs are far more frequent: the repository's README has them counted.
+pub const NO_CHECKSUM: Range<usize> = 0..0;
 
 /// The most positions of a pattern.
 pub const MOST_POSITIONS: usize = 4;
@@ -163,7 +170,7 @@ pub enum Refusal {
     Mark = 7,
     /// 8: the output of a page has less than 9 bytes; that of a repair is not as long as the packet.
     Output = 8,
-    /// 9: the range is not accepted.
+    /// 9: the range ends before its start, or reaches into the CRC.
     Range = 9,
     /// 10: the field is not whole in the range, or not an even number of bytes from its start.
     Field = 10,
@@ -204,7 +211,7 @@ impl fmt::Display for Refusal {
             Refusal::TableEntry => "a table entry is wrong",
             Refusal::Mark => "the mark's pattern is unfit",
             Refusal::Output => "the output has an unfit length",
-            Refusal::Range => "the range is empty or reaches into the CRC",
+            Refusal::Range => "the range ends before its start or reaches into the CRC",
             Refusal::Field => "the field is not whole in the range, or not an even number of bytes from its start",
             Refusal::Values => "the initial or the final value does not fit the degree",
         };
@@ -433,7 +440,7 @@ pub fn sum(bytes: &[u8]) -> u16 {
 }
 
 /// Stamps a packet, so that the range passes: the two bytes at `field`, an index into the packet, become what the sum of the
-/// range, taken with these two as zero, lacks to FFFFh. Refused by 1, 2, 9, 10.
+/// range, taken with these two as zero, lacks to FFFFh. Refused by 1, 2, 9, 10; an empty range has no field, and is refused by 10.
 ///
 /// ```
 /// use rangqoda::{stamp, sum, Refusal, CCITT};
@@ -450,7 +457,7 @@ pub fn stamp(generator: u64, range: Range<usize>, field: usize, packet: &mut [u8
 }
 
 /// Makes a packet from a seed: fills it, stamps the range at `field`, and seals it. The same numbers make the same packet,
-/// whatever it held before. Refused by 1, 2, 11, 9, 10, in this order.
+/// whatever it held before. Refused by 1, 2, 11, 9, 10, in this order; by 10 for an empty range, which has no field.
 ///
 /// The bytes come from a 32-bit state, the seed to begin with. Each step goes from a state s to (1664525 s + 1013904223) mod 2^32,
 /// and the top eight bits of that are the next byte, from the first one on. Returned is the state after as many steps as the
@@ -600,17 +607,21 @@ pub fn page(
     Ok(Page { used, written, next })
 }
 
-/// Repairs a packet whose range carries a checksum. `output` is as long as the packet; it changes only for
-/// [`Verdict::Repaired`], when it holds the flipped packet. Refused by 1, 2, 11, 3, 5, 6, 8, 9, in this order.
+/// Repairs a packet whose range carries a checksum, or which carries none ([`NO_CHECKSUM`]). `output` is as long as the packet;
+/// it changes only for [`Verdict::Repaired`], when it holds the flipped packet. Refused by 1, 2, 11, 3, 5, 6, 8, 9, in this order.
 ///
 /// ```
-/// use rangqoda::{repair, Crc, Pattern, Tables, Verdict, FIVE};
+/// use rangqoda::{repair, Crc, Pattern, Tables, Verdict, FIVE, NO_CHECKSUM};
 ///
 /// let tables = Tables::new(FIVE)?;
 /// let mut output = [0; 3];
 /// let verdict = repair(Crc::plain(FIVE), 0..2, 1, tables.as_slices(), &[0x7F, 0xFF, 0x05], &mut output)?;
 /// assert_eq!(verdict, Verdict::Repaired(Pattern::new(&[23]).unwrap()));
 /// assert_eq!(output, [0xFF, 0xFF, 0x05]);
+///
+/// // Of these two patterns the checksum struck one; without a checksum both are left.
+/// let verdict = repair(Crc::plain(FIVE), NO_CHECKSUM, 1, tables.as_slices(), &[0x7F, 0xFF, 0x05], &mut output)?;
+/// assert!(matches!(verdict, Verdict::Several { count: 2, .. }));
 /// # Ok::<(), rangqoda::Refusal>(())
 /// ```
 pub fn repair(

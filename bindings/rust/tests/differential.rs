@@ -576,12 +576,15 @@ fn make_refuses_by_the_first_that_applies() {
             if broken.has(10) {
                 let huge = random.pick(&HUGE);
                 field = random.pick(&[start + 1, end - 1, end, end + 1, start.wrapping_sub(2), huge]);
+                if random.once_in(4) {
+                    (end, field) = (start, random.within(0, room)); // an empty range has no room for a field
+                }
             }
             if broken.has(9) {
                 let huge = random.pick(&HUGE);
                 let past = (8 * room - n) / 8 + 1;
-                let empty = [(start, start), (end, start), (huge, end)];
-                (start, end) = random.pick(&[empty, [(start, past), (start, room), (start, huge)]].concat());
+                let reaching = [(start, past), (past, past), (start, room), (start, huge), (huge, huge)];
+                (start, end) = random.pick(&[&reaching[..], &[(end + 1, start), (huge, end)]].concat());
             }
             let len = if broken.has(2) { random.pick(&[0, n / 8, 513, 600]) } else { room };
             if broken.has(11) {
@@ -862,7 +865,8 @@ fn some_received(random: &mut Random, most: u64) -> Received {
     let len = bits / 8;
     let most_end = (8 * len - n) / 8;
     let end = random.within(1, most_end);
-    let start = random.within(0, end - 1);
+    // one in four carries no checksum
+    let start = if random.once_in(4) { end } else { random.within(0, end - 1) };
     let mut sent = random.packet(len);
     if end - start >= 2 {
         let field = start + 2 * random.within(0, (end - start - 2) / 2);
@@ -899,7 +903,7 @@ fn repair_gives_the_verdict() {
             Verdict::Several(_) => 2,
             Verdict::None => 3,
         }] += 1;
-        let sent_passes = reference::sum(&received.sent[received.start..received.end]) == 0xFFFF;
+        let sent_passes = reference::passes(&received.sent, received.start, received.end);
         if sent_passes && received.flips <= received.limit {
             assert_ne!(verdict, Verdict::None, "the packet sent is within the limit");
             if let Verdict::Repaired(pattern) = verdict {
@@ -959,6 +963,65 @@ fn repair_of_any_bytes() {
         let lent = RepairLent { output: random.bytes(len), verdict: random.bytes(VERDICT_BYTES) };
         let _ = compare_repair(&call, &lent);
     }
+}
+
+/// Packets that carry no checksum, at every place for the range and in every damage of up to two bits: by the remainder and the
+/// list alone, the same wherever the range stands. Stamp and maker have no field there.
+#[test]
+fn no_checksum_at_every_place() {
+    let mut random = Random::new(25);
+    let mut listed = [0; 3];
+    for (generator, len) in
+        [(9, 2), (11, 3), (53, 2), (53, 4), (0x107, 3), (0x107, 5), (0x18005, 4), (rangqoda::CCITT, 5)]
+    {
+        let n = reference::degree(generator);
+        let crc = random.values(generator);
+        let tables = reference::tables_of(generator);
+        let (step, first) = (&tables.step[..], &tables.first[..]);
+        let mut sent = random.bytes(len);
+        reference::seal(crc, &mut sent).unwrap();
+        let bits = 8 * len as u16;
+        let pairs = (0..bits).flat_map(|p| (0..=p).map(move |q| if p == q { vec![p] } else { vec![q, p] }));
+        for pattern in [vec![]].into_iter().chain(pairs) {
+            let packet = reference::flipped(&sent, &pattern);
+            let limit = random.within(1, 3);
+            let lent = RepairLent { output: random.bytes(len), verdict: random.bytes(VERDICT_BYTES) };
+            let found = |place: usize| {
+                let call = RepairCall { crc, start: place, end: place, limit, step, first, packet: &packet };
+                (compare_repair(&call, &lent), common::repair(&call, &lent))
+            };
+            let (answer, told) = found(0);
+            let syndrome = reference::remainder(crc, &packet).unwrap();
+            let list = reference::list(generator, 8 * len, limit, syndrome);
+            let by_list = match (syndrome, list.len()) {
+                (0, _) => Verdict::Intact,
+                (_, 0) => Verdict::None,
+                (_, 1) => Verdict::Repaired(list[0].clone()),
+                _ => Verdict::Several(list.to_vec()),
+            };
+            listed[list.len().min(2)] += 1;
+            assert_eq!(answer, Ok(by_list));
+            if pattern.len() <= limit {
+                assert_ne!(answer, Ok(Verdict::None), "the packet sent is within the limit");
+            }
+            for place in 1..len + 2 {
+                if 8 * place <= 8 * len - n {
+                    assert_eq!(found(place), (answer.clone(), told.clone()), "{crc:?} {place}");
+                } else {
+                    assert_eq!(found(place), (Err(9), (9, lent.clone())), "{crc:?} {place}");
+                }
+            }
+        }
+        for place in 0..len + 2 {
+            let number = if 8 * place <= 8 * len - n { 10 } else { 9 };
+            for field in (0..len + 2).chain(HUGE) {
+                assert_eq!(common::stamp(generator, place, place, field, &sent), (number, sent.clone()));
+                let call = MakeCall { crc, seed: 7, start: place, end: place, field };
+                assert_eq!(compare_make(&call, &sent), number, "{call:?}");
+            }
+        }
+    }
+    assert!(listed.iter().all(|&times| times > 100), "{listed:?}");
 }
 
 #[test]
@@ -1083,12 +1146,12 @@ fn repair_refuses_by_the_first_that_applies() {
             let len = if broken.has(2) { random.pick(&[0, n / 8, 513, 514, 1000]) } else { random.within(3, 24) };
             let packet = random.packet(len);
             let most_end = (8 * len).saturating_sub(n) / 8;
-            let (start, end) = if broken.has(9) || most_end == 0 {
+            let (start, end) = if broken.has(9) {
                 let huge = random.pick(&HUGE);
                 let start = random.within(0, most_end);
                 random.pick(&[
-                    (start, start),
                     (0, most_end + 1),
+                    (most_end + 1, most_end + 1),
                     (start + 1, start),
                     (0, len),
                     (start, huge),
@@ -1096,8 +1159,8 @@ fn repair_refuses_by_the_first_that_applies() {
                     (huge, huge),
                 ])
             } else {
-                let end = random.within(1, most_end);
-                (random.within(0, end - 1), end)
+                let end = random.within(0, most_end);
+                (random.within(0, end), end)
             };
             let (mut step, mut first) = if broken.has(6) {
                 spoiled(&mut random, generator, &tables)
@@ -1164,6 +1227,7 @@ fn huge_numbers_are_refused() {
         let lent = RepairLent { output: vec![0; 16], verdict: vec![0; VERDICT_BYTES] };
         assert_eq!(compare_repair(&RepairCall { start: huge, ..call.clone() }, &lent), Err(9));
         assert_eq!(compare_repair(&RepairCall { end: huge, ..call.clone() }, &lent), Err(9));
+        assert_eq!(compare_repair(&RepairCall { start: huge, end: huge, ..call.clone() }, &lent), Err(9));
         assert_eq!(compare_repair(&RepairCall { limit: huge, ..call.clone() }, &lent), Err(3));
         for (generator, init, xorout, number) in
             [(huge as u64, 0, 0, 1), (0x11021, huge as u64, 0, 11), (0x11021, 0, huge as u64, 11)]
@@ -1260,7 +1324,7 @@ fn the_wrapper_repairs_and_hands_back() {
 
 #[test]
 fn the_wrapper_passes_refusals_on() {
-    use rangqoda::{Mark, Pattern, Refusal, TableSlices, Tables, CCITT, FIVE};
+    use rangqoda::{Mark, Pattern, Refusal, TableSlices, Tables, CCITT, FIVE, NO_CHECKSUM};
     for generator in UNFIT_GENERATORS {
         assert_eq!(rangqoda::remainder(Crc::plain(generator), &[0; 8]), Err(Refusal::Generator));
         assert_eq!(rangqoda::seal(Crc::plain(generator), &mut [0; 8]), Err(Refusal::Generator));
@@ -1294,7 +1358,10 @@ fn the_wrapper_passes_refusals_on() {
     assert_eq!(tables.page(8, 2, 3, Mark::Start, &mut output[..8]), Err(Refusal::Output));
     assert_eq!(tables.repair(five, 0..2, 1, &[0; 3], &mut output), Err(Refusal::Output));
     assert_eq!(tables.repair(five, 0..3, 1, &[0; 3], &mut output[..3]), Err(Refusal::Range));
+    assert_eq!(tables.repair(five, 3..3, 1, &[0; 3], &mut output[..3]), Err(Refusal::Range));
     assert_eq!(rangqoda::stamp(CCITT, 0..4, 1, &mut output), Err(Refusal::Field));
+    assert_eq!(rangqoda::stamp(CCITT, NO_CHECKSUM, 0, &mut output), Err(Refusal::Field));
+    assert_eq!(rangqoda::make(five, 7, NO_CHECKSUM, 0, &mut output), Err(Refusal::Field));
     assert_eq!(rangqoda::make(wide, 7, 0..4, 1, &mut []), Err(Refusal::Length));
     assert_eq!(rangqoda::make(wide, 7, 0..4, 1, &mut output), Err(Refusal::Values));
     assert_eq!(rangqoda::make(five, 7, 0..16, 1, &mut output), Err(Refusal::Range));

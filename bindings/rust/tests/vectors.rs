@@ -3,8 +3,9 @@
 
 use rangqoda::{
     catalogue, hand_back, make, page, remainder, repair, seal, stamp, sum, Crc, Mark, Pattern, Refusal, TableSlices,
-    Tables, Verdict, CCITT, FIVE, NO_POSITION,
+    Tables, Verdict, CCITT, FIVE, NO_CHECKSUM, NO_POSITION,
 };
+use std::ops::Range;
 
 /// The list, as slices of positions.
 fn list(generator: u64, length: usize, limit: usize, syndrome: u64) -> Vec<Vec<u16>> {
@@ -105,6 +106,27 @@ fn verdicts_of_five() {
     let repaired = tables.repair(Crc::plain(FIVE), 0..2, 1, &[0x7F, 0xFF, 0x05], &mut output).unwrap();
     assert_eq!(repaired, Verdict::Repaired(pattern(&[23])));
     assert_eq!(output, [0xFF, 0xFF, 0x05]);
+}
+
+/// The same packets without a second check, and one of remainder 0 whose sum is not FFFFh.
+#[test]
+fn verdicts_of_five_without_a_checksum() {
+    let tables = Tables::new(FIVE).unwrap();
+    let mut output = [0xAA; 3];
+    let mut verdict = |packet: &[u8]| tables.repair(Crc::plain(FIVE), NO_CHECKSUM, 1, packet, &mut output).unwrap();
+    assert_eq!(sum(&[0x7F, 0xFE]), 0x7FFE);
+    assert_eq!(verdict(&[0x7F, 0xFE, 0x05]), Verdict::Intact);
+    let several = verdict(&[0x7F, 0xFF, 0x05]);
+    assert!(matches!(several, Verdict::Several { count: 2, pattern } if pattern.len() == 1), "{several:?}");
+    assert_eq!(verdict(&[0xFF, 0xFF, 0x06]), Verdict::None);
+    assert_eq!(verdict(&[0xFF, 0xFD, 0x05]), Verdict::Repaired(pattern(&[9])));
+    assert_eq!(output, [0xFF, 0xFF, 0x05]);
+
+    let mut packet = [0xFF, 0xFF, 0x05];
+    assert_eq!(stamp(FIVE, 2..2, 2, &mut packet), Err(Refusal::Field));
+    assert_eq!(stamp(FIVE, 3..3, 3, &mut packet), Err(Refusal::Range));
+    assert_eq!(stamp(FIVE, Range { start: 1, end: 0 }, 0, &mut packet), Err(Refusal::Range));
+    assert_eq!(packet, [0xFF, 0xFF, 0x05]);
 }
 
 #[test]

@@ -3,32 +3,32 @@ use mathlib.Core.Path.{_≡_, sym, _∙_}
 use mathlib.Core.Bool.{true, false, true≢false, or-true}
 use Prim.Native.Nat.{ℕ, _+_, _-_, _*_, _%_, _<_, _≤_}
 use native.Mathlib.Omega.{arith}
-use borrow.Author.Tests.{lt-ltb, le-ltb, le-leb, lt-leb, ltb-true, ltb-false, leb-true, leb-false, eqb-false}
-use lib.Dec.{eqb, leb, ltb}
-use Rattle.base.proofs.Cases.{by-test}
+use borrow.Author.Tests.{lt-ltb, le-ltb, ltb-true, ltb-false, eqb-false}
+use lib.Dec.{eqb, ltb}
+use Rattle.base.proofs.Cases.{by-test, by-order}
 use Rattle.checksum.specs.Checksum.{unfitRange, unfitField}
 use Rattle.checksum.specs.declared.Check.{Check}
 
 module _ (n l : ℕ) (k : Check) where
-  pub empty-unfit : k .to ≤ k .from → unfitRange n l k ≡ true
+  pub backward-unfit : k .to < k .from → unfitRange n l k ≡ true
   unfolding unfitRange
-  empty-unfit h = simp (le-leb _ _ h)
+  backward-unfit h = simp (lt-ltb _ _ h)
 
-  pub range-unfit : k .from < k .to → unfitRange n l k ≡ ltb l (8 * k .to + n)
+  pub range-unfit : k .from ≤ k .to → unfitRange n l k ≡ ltb l (8 * k .to + n)
   unfolding unfitRange
-  range-unfit h = simp (lt-leb _ _ h)
+  range-unfit h = simp (le-ltb _ _ h)
 
   -- a range that condition 9 lets pass
   pub record FitRange : Type 0 where
-    pub some : k .from < k .to
+    pub ordered : k .from ≤ k .to
     pub whole : 8 * k .to + n ≤ l
 
   pub fit-range : unfitRange n l k ≡ false → FitRange
   fit-range h =
-      by-test (leb (k .to) (k .from)) (λ t. absurd (true≢false (sym (empty-unfit (leb-true _ _ t)) ∙ h)))
+      by-test (ltb (k .to) (k .from)) (λ t. absurd (true≢false (sym (backward-unfit (ltb-true _ _ t)) ∙ h)))
       (λ t.
-      let some : k .from < k .to = leb-false _ _ t in
-      record { some = some; whole = ltb-false _ _ (sym (range-unfit some) ∙ h) })
+      let ordered : k .from ≤ k .to = ltb-false _ _ t in
+      record { ordered = ordered; whole = ltb-false _ _ (sym (range-unfit ordered) ∙ h) })
 
 module _ (k : Check) (f : ℕ) where
   pub before-unfit : f < k .from → unfitField k f ≡ true
@@ -38,6 +38,10 @@ module _ (k : Check) (f : ℕ) where
   pub past-unfit : k .to < f + 2 → unfitField k f ≡ true
   unfolding unfitField
   past-unfit h = simp (lt-ltb _ _ h, or-true)
+
+  -- an empty range has no room for a field
+  pub empty-unfit : k .from ≡ k .to → unfitField k f ≡ true
+  empty-unfit e = by-order f (k .from) (λ h. before-unfit h) (λ h. past-unfit (omega arith))
 
   pub field-unfit : k .from ≤ f → f + 2 ≤ k .to → unfitField k f ≡ eqb ((f - k .from) % 2) 1
   unfolding unfitField

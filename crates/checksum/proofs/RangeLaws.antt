@@ -1,6 +1,7 @@
 -- How the total of a range changes with one byte of the packet: by what that byte counts there, which is nothing outside the range.
 -- The induction over the range takes two bytes, one word, at a time.
 use mathlib.Core.Path.{_≡_, refl, ap, _∙_}
+use mathlib.Core.Bool.{true}
 use mathlib.Core.List.{List, [], _∷_}
 use Prim.Native.Nat.{ℕ, zero, suc, _+_, _-_, _*_, _%_, _<_, _≤_}
 use native.Mathlib.Omega.{arith}
@@ -11,7 +12,7 @@ use lib.Seq.{getD-take, getD-drop, drop-set-lt, drop-set-add, take-set-le, take-
 use Rattle.base.specs.Outcome.{pick}
 use Rattle.base.proofs.Cases.{by-test, by-order}
 use Rattle.packet.specs.Packet.{Bytes}
-use Rattle.checksum.specs.Checksum.{total, range, passes}
+use Rattle.checksum.specs.Checksum.{sumOf, total, range, passes}
 use Rattle.checksum.specs.Totals.{multiple, wordWeight, share}
 use Rattle.checksum.specs.declared.Check.{Check}
 use Rattle.checksum.proofs.SumLaws.{total-one, total-two, sum-multiple}
@@ -36,10 +37,18 @@ pub range-bytes : (a e : ℕ) (s : List ℕ) → Bytes s → Bytes (range a e s)
 unfolding range
 range-bytes a e s b = take-bytes (e - a) (drop a s) (drop-bytes a s b)
 
--- the second check, decided from the plain total
-pub passes-total : (k : Check) (s : List ℕ) → Bytes s → passes k s ≡ multiple (total (range (k .from) (k .to) s))
+-- where there is no second check, every packet passes it
+pub no-check-passes : (k : Check) (s : List ℕ) → k .from ≡ k .to → passes k s ≡ true
 unfolding passes
-passes-total k s b = sum-multiple (range (k .from) (k .to) s) (range-bytes (k .from) (k .to) s b)
+no-check-passes k s h = simp (eq-eqb _ _ h)
+
+-- and where there is one, the sum of the range decides, or its plain total
+pub sum-decides : (k : Check) (s : List ℕ) → (k .from ≡ k .to → ⊥) → passes k s ≡ eqb (sumOf (range (k .from) (k .to) s)) 65535
+unfolding passes
+sum-decides k s h = simp (ne-eqb _ _ h)
+
+pub passes-total : (k : Check) (s : List ℕ) → (k .from ≡ k .to → ⊥) → Bytes s → passes k s ≡ multiple (total (range (k .from) (k .to) s))
+passes-total k s h b = sum-decides k s h ∙ sum-multiple (range (k .from) (k .to) s) (range-bytes (k .from) (k .to) s b)
 
 pub range-length : (a e : ℕ) (s : List ℕ) → e ≤ length s → length (range a e s) ≡ e - a
 unfolding range

@@ -1,5 +1,6 @@
 -- Sealing leaves the second check as it was: it changes the last n bits alone, and an accepted range ends before them. The bytes of a range are read off the polynomial divided by a power that the seal leaves as it was.
 use mathlib.Core.Path.{_≡_, sym, ap, _∙_}
+use mathlib.Core.Bool.{_||_}
 use mathlib.Core.List.{List}
 use Prim.Native.Nat.{ℕ, _+_, _-_, _*_, _/_, _^_, _<_, _≤_}
 use native.Mathlib.Omega.{arith}
@@ -69,4 +70,4 @@ sealed-range c k s d b fit =
 pub sealed-passes : (c : Crc) (k : Check) (s : List ℕ) → Divisor (c .generator .degree) (c .generator .coefficients) → Bytes s
     → FitRange (c .generator .degree) (bits s) k → passes k (sealed c s) ≡ passes k s
 unfolding passes
-sealed-passes c k s d b fit = ap (λ (l : List ℕ). eqb (sumOf l) 65535) (sealed-range c k s d b fit)
+sealed-passes c k s d b fit = ap (λ (l : List ℕ). eqb (k .from) (k .to) || eqb (sumOf l) 65535) (sealed-range c k s d b fit)

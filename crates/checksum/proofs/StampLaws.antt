@@ -98,8 +98,9 @@ unfolding stamped
 stamp-passes k f s b he hf =
     let z = range (k .from) (k .to) (withField f 0 s) in
     let bz = range-bytes (k .from) (k .to) (withField f 0 s) (withField-bytes f 0 s b (omega arith)) in
-    passes-total k _ (stamped-bytes k f s b)
-    ∙ ap multiple (total-withField k f s (fit-field k f hf) he (65535 - sumOf z) ∙ ap (λ (x : ℕ). total z + (65535 - x)) (sum-reduced z bz))
+    let fit = fit-field k f hf in
+    passes-total k _ (λ e. omega arith) (stamped-bytes k f s b)
+    ∙ ap multiple (total-withField k f s fit he (65535 - sumOf z) ∙ ap (λ (x : ℕ). total z + (65535 - x)) (sum-reduced z bz))
     ∙ complete (total z)
 
 -- what the field then holds, and that no other byte changed

@@ -2,7 +2,7 @@
 use Prim.Native.Nat.{ℕ, zero, suc, _+_, _-_, _*_, _/_, _%_}
 use mathlib.Core.Bool.{Bool, _||_}
 use mathlib.Core.List.{List, [], _∷_}
-use lib.Dec.{eqb, leb, ltb}
+use lib.Dec.{eqb, ltb}
 use lib.ListN.{take, drop, set}
 use Rattle.checksum.specs.declared.Check.{Check}
 
@@ -47,17 +47,17 @@ reduced (suc t) = suc (t % 65535)
 unfoldable pub range : ℕ → ℕ → List ℕ → List ℕ
 range a e s = take (e - a) (drop a s)
 
--- the check of the range from `from` on and before `to`
+-- the check of the range from `from` on and before `to`; where both are one place there is no second check
 abbrev pub checkOf : ℕ → ℕ → Check
 checkOf from to = record { from = from; to = to }
 
--- whether a packet passes the second check: the sum of its range is FFFFh
+-- whether a packet passes the second check: there is none, or the sum of its range is FFFFh
 unfoldable pub passes : Check → List ℕ → Bool
-passes k s = eqb (sumOf (range (k .from) (k .to) s)) 65535
+passes k s = eqb (k .from) (k .to) || eqb (sumOf (range (k .from) (k .to) s)) 65535
 
--- condition 9, for a generator of degree n and a packet of l bits: the range is empty or reaches into the CRC
+-- condition 9, for a generator of degree n and a packet of l bits: the range ends before its start or reaches into the CRC
 unfoldable pub unfitRange : ℕ → ℕ → Check → Bool
-unfitRange n l k = leb (k .to) (k .from) || ltb l (8 * k .to + n)
+unfitRange n l k = ltb (k .to) (k .from) || ltb l (8 * k .to + n)
 
 -- condition 10: the field is not wholly in the range, or stands at an odd distance from its start
 unfoldable pub unfitField : Check → ℕ → Bool

@@ -29,7 +29,8 @@ ghost use Rattle.checksum.specs.Calls.{
   stampPacket,
 };
 
-// What the second check is taken by: the bytes of the packet from `from` on and before `to`.
+// What the second check is taken by: the bytes of the packet from `from` on and before `to`. Where these are equal there is
+// none.
 pub struct Check {
     pub from: usize,
     pub to: usize,
@@ -169,11 +170,17 @@ fn flipped_total(w: Weighed, packet: &[u8], pos: &[u16]) -> u64
     before + plus - minus
 }
 
-// Whether the packet passes the second check once the positions are flipped.
+// Whether the packet passes the second check once the positions are flipped. Where there is none, nothing is weighed.
 pub fn passes_flipped(w: Weighed, packet: &[u8], pos: &[u16]) -> bool
     requires { ⌜ Weighs w (now packet) × Ascending (bits (now packet)) 0 (now pos) ⌝ }
     ensures { λ r. ⌜ r ≡ passes (w .check) (flips (now (packet .entry)) (now (pos .entry))) ⌝ }
 {
+    let check = w.check;
+    let from = check.from;
+    let to = check.to;
+    if from == to {
+        return true;
+    }
     decide(flipped_total(w, packet, pos))
 }
 
@@ -192,7 +199,7 @@ pub fn unfit_range(g: Generator, len: usize, check: Check) -> bool
 {
     let from = check.from;
     let to = check.to;
-    if to <= from {
+    if to < from {
         return true;
     }
     if len < to {

@@ -160,7 +160,7 @@ fn mark_fits(mark: &Mark, length: usize, limit: usize) -> Answer<()> {
 }
 
 fn range_fits(start: usize, end: usize, length: u128, n: usize) -> Answer<()> {
-    if start >= end || 8 * end as u128 > length - n as u128 {
+    if start > end || 8 * end as u128 > length - n as u128 {
         return Err(9);
     }
     Ok(())
@@ -211,6 +211,14 @@ pub fn sum(bytes: &[u8]) -> u16 {
         total = total % 0x10000 + total / 0x10000;
     }
     total as u16
+}
+
+/// The second check: the range has the sum FFFFh. A range that begins and ends at one place says that there is no such check.
+pub fn passes(packet: &[u8], start: usize, end: usize) -> bool {
+    if start == end {
+        return true;
+    }
+    sum(&packet[start..end]) == 0xFFFF
 }
 
 pub fn stamp(generator: u64, start: usize, end: usize, field: usize, packet: &mut [u8]) -> Answer<()> {
@@ -436,14 +444,13 @@ pub fn repair(of: &RepairOf<'_>, output: &mut [u8]) -> Answer<Verdict> {
     }
     range_fits(of.start, of.end, packet_length(of.packet), n)?;
 
-    let range_passes = |packet: &[u8]| sum(&packet[of.start..of.end]) == 0xFFFF;
     let syndrome = divide(read(bits(of.packet), of.crc), of.crc.generator);
-    if syndrome == 0 && range_passes(of.packet) {
+    if syndrome == 0 && passes(of.packet, of.start, of.end) {
         return Ok(Verdict::Intact);
     }
     let mut passing: Vec<Pattern> = list(of.crc.generator, 8 * of.packet.len(), of.limit, syndrome)
         .iter()
-        .filter(|pattern| range_passes(&flipped(of.packet, pattern)))
+        .filter(|pattern| passes(&flipped(of.packet, pattern), of.start, of.end))
         .cloned()
         .collect();
     Ok(match passing.len() {
