@@ -39,7 +39,7 @@ use Rattle.repair.proofs.VerdictLaws.{verdict-intact, verdict-nothing, verdict-
 use Rattle.repair.proofs.SentLaws.{sent-packet, sent-flipped}
 use Rattle.demands.specs.Demand3.{Supposed, repairWith, Roomy}
 
-fit-of : {c : Crc} {k : Check} {limit : ℕ} {s : List ℕ} → Supposed c k limit s → Fit (c .generator)
+pub fit-of : {c : Crc} {k : Check} {limit : ℕ} {s : List ℕ} → Supposed c k limit s → Fit (c .generator)
 fit-of {c} p = subst Fit (p .numbered) (fit-accepted (c .generator .coefficients) (p .fitGenerator))
 
 -- an accepted packet, generator, initial and final value, range and limit

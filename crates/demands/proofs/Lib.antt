@@ -2,5 +2,6 @@ pub mod ReadBits
 pub mod Demand2
 pub mod Demand3
 pub mod PlainCalls
+pub mod NoChecksum
 pub mod MadePackets
 pub mod WorkedRows

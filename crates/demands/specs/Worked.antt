@@ -2,13 +2,14 @@
 use Prim.Native.Nat.{ℕ}
 use mathlib.Core.Path.{_≡_}
 use mathlib.Core.List.{List, [], _∷_}
-use Rattle.base.specs.Outcome.{accepted}
+use Rattle.base.specs.Outcome.{refused, accepted}
 use Rattle.poly.specs.Polynomial.{degree, rem}
 use Rattle.poly.specs.Generators.{generatorOf, five}
 use Rattle.poly.specs.declared.Generator.{Generator}
 use Rattle.packet.specs.Packet.{crcOf, remainder}
 use Rattle.tables.specs.Tables.{period, step, first}
 use Rattle.checksum.specs.Checksum.{sumOf, checkOf}
+use Rattle.checksum.specs.Calls.{stampCall}
 use Rattle.checksum.specs.declared.Check.{Check}
 use Rattle.maker.specs.Stream.{yielded, stateAfter}
 use Rattle.maker.specs.Calls.{makeCall, makePacket}
@@ -24,6 +25,10 @@ listOf g l limit s = listing (g .degree) (g .coefficients) l limit s
 -- the range [0, 2)
 abbrev pub firstTwo : Check
 firstTwo = checkOf 0 2
+
+-- no second check: a range that begins and ends at one place
+abbrev pub noCheck : Check
+noCheck = checkOf 0 0
 
 -- the digits 1 to 9 as text, and two zeros
 abbrev pub checked : List ℕ
@@ -77,3 +82,11 @@ pub record Worked : Type 0 where
   pub row18 : (makePacket (crcOf 0x11021 0 0) 0 (checkOf 0 6) 4 blank ≡ 0x3C ∷ 0x47 ∷ 0xD1 ∷ 0xAA ∷ 0xF2 ∷ 0x0D ∷ 0x52 ∷ 0x37 ∷ [])
       × (makeCall (crcOf 0x11021 0 0) 0 (checkOf 0 6) 4 blank ≡ accepted 0xA3D95FA8)
       × (makePacket (crcOf 0x11021 0xFFFF 0) 0 (checkOf 0 6) 4 blank ≡ 0x3C ∷ 0x47 ∷ 0xD1 ∷ 0xAA ∷ 0xF2 ∷ 0x0D ∷ 0x5C ∷ 0x27 ∷ [])
+  -- five, no second check, N 1: 7F FE 05; 7F FF 05; FF FD 05; FF FF 06: Intact; Several, 2; Repaired {9}; None
+  pub row19 : ((named : List ℕ) → verdict (crcOf 53 0 0) noCheck 1 (0x7F ∷ 0xFE ∷ 0x05 ∷ []) named ≡ intact)
+      × ((named : List ℕ) → verdict (crcOf 53 0 0) noCheck 1 (0x7F ∷ 0xFF ∷ 0x05 ∷ []) named ≡ several 2 named)
+      × ((named : List ℕ) → verdict (crcOf 53 0 0) noCheck 1 (0xFF ∷ 0xFD ∷ 0x05 ∷ []) named ≡ repaired (9 ∷ []))
+      × ((named : List ℕ) → verdict (crcOf 53 0 0) noCheck 1 (0xFF ∷ 0xFF ∷ 0x06 ∷ []) named ≡ nothing)
+  -- five, FF FF 05 stamped with [2,2), field 2; [3,3), field 3; [1,0), field 0: refused by 10; 9; 9
+  pub row20 : (stampCall 53 (checkOf 2 2) 2 (0xFF ∷ 0xFF ∷ 0x05 ∷ []) ≡ refused 10) × (stampCall 53 (checkOf 3 3) 3 (0xFF ∷ 0xFF ∷ 0x05 ∷ []) ≡ refused 9)
+      × (stampCall 53 (checkOf 1 0) 0 (0xFF ∷ 0xFF ∷ 0x05 ∷ []) ≡ refused 9)
