@@ -6,8 +6,14 @@
 //!
 //! Then packets that were stamped and sealed, with some bits flipped: how many are repaired to what was sent, and how many
 //! to something else.
+//!
+//! Last, both of packets that carry no checksum.
 
-use rangqoda::{catalogue::CRC_16_XMODEM as CRC, seal, stamp, Refusal, Tables, Verdict, CCITT};
+use rangqoda::{catalogue::CRC_16_XMODEM as CRC, seal, stamp, Refusal, Tables, Verdict, CCITT, NO_CHECKSUM};
+use std::ops::Range;
+
+const NOISE: &str = "bytes  N expected to pass   trials repaired  several";
+const FLIPS: &str = "bytes  N  flips   trials  rightly  falsely  several     none";
 
 /// How many sets of at most `limit` positions there are among `bits`.
 fn sets_of_at_most(limit: usize, bits: usize) -> f64 {
@@ -49,33 +55,48 @@ fn damaged(packet: &[u8], flips: usize, state: &mut u64) -> Vec<u8> {
     flipped
 }
 
-fn noise(tables: &Tables, bytes: usize, limit: usize, trials: usize) -> Result<(), Refusal> {
+/// The range of a checksum over all but the CRC.
+fn all_but_the_crc(bytes: usize) -> Range<usize> {
+    0..bytes - 2
+}
+
+fn noise(tables: &Tables, range: Range<usize>, bytes: usize, limit: usize, trials: usize) -> Result<(), Refusal> {
     let mut state = 1;
     let mut copy = vec![0; bytes];
     let (mut repaired, mut several) = (0, 0);
     for _ in 0..trials {
         let packet = random_bytes(bytes, &mut state);
-        match tables.repair(CRC, 0..bytes - 2, limit, &packet, &mut copy)? {
+        match tables.repair(CRC, range.clone(), limit, &packet, &mut copy)? {
             Verdict::Repaired(_) => repaired += 1,
             Verdict::Several { .. } => several += 1,
             Verdict::Intact | Verdict::None => {}
         }
     }
-    let expected = sets_of_at_most(limit, 8 * bytes) / 65536.0 / 65535.0;
+    let sums = if range.is_empty() { 1.0 } else { 65535.0 };
+    let expected = sets_of_at_most(limit, 8 * bytes) / 65536.0 / sums;
     println!("{bytes:>5} {limit:>2} {expected:>16.9} {trials:>8} {repaired:>8} {several:>8}");
     Ok(())
 }
 
-fn flips(tables: &Tables, bytes: usize, limit: usize, flips: usize, trials: usize) -> Result<(), Refusal> {
+fn flips(
+    tables: &Tables,
+    range: Range<usize>,
+    bytes: usize,
+    limit: usize,
+    flips: usize,
+    trials: usize,
+) -> Result<(), Refusal> {
     let mut state = 1;
     let mut copy = vec![0; bytes];
     let (mut rightly, mut falsely, mut several, mut none) = (0, 0, 0, 0);
     for _ in 0..trials {
         let mut sent = random_bytes(bytes, &mut state);
-        stamp(CCITT, 0..bytes - 2, 0, &mut sent)?;
+        if !range.is_empty() {
+            stamp(CCITT, range.clone(), 0, &mut sent)?;
+        }
         seal(CRC, &mut sent)?;
         let received = damaged(&sent, flips, &mut state);
-        match tables.repair(CRC, 0..bytes - 2, limit, &received, &mut copy)? {
+        match tables.repair(CRC, range.clone(), limit, &received, &mut copy)? {
             Verdict::Repaired(_) if copy == sent => rightly += 1,
             Verdict::Repaired(_) | Verdict::Intact => falsely += 1,
             Verdict::Several { .. } => several += 1,
@@ -88,7 +109,7 @@ fn flips(tables: &Tables, bytes: usize, limit: usize, flips: usize, trials: usiz
 
 fn run() -> Result<(), Refusal> {
     let tables = Tables::new(CCITT)?;
-    println!("Noise\nbytes  N expected to pass   trials repaired  several");
+    println!("Noise\n{NOISE}");
     for (bytes, limit, trials) in [
         (16, 3, 100_000),
         (16, 4, 20_000),
@@ -98,9 +119,9 @@ fn run() -> Result<(), Refusal> {
         (512, 2, 20_000),
         (512, 3, 500),
     ] {
-        noise(&tables, bytes, limit, trials)?;
+        noise(&tables, all_but_the_crc(bytes), bytes, limit, trials)?;
     }
-    println!("\nFlipped bits\nbytes  N  flips   trials  rightly  falsely  several     none");
+    println!("\nFlipped bits\n{FLIPS}");
     for (bytes, limit, flipped, trials) in [
         (16, 2, 1, 20_000),
         (16, 2, 2, 20_000),
@@ -128,7 +149,33 @@ fn run() -> Result<(), Refusal> {
         (512, 2, 3, 10_000),
         (512, 2, 4, 10_000),
     ] {
-        flips(&tables, bytes, limit, flipped, trials)?;
+        flips(&tables, all_but_the_crc(bytes), bytes, limit, flipped, trials)?;
+    }
+    println!("\nNoise, no checksum\n{NOISE}");
+    for (bytes, limit, trials) in
+        [(16, 1, 100_000), (16, 2, 100_000), (16, 3, 20_000), (64, 1, 100_000), (64, 2, 20_000), (512, 1, 20_000)]
+    {
+        noise(&tables, NO_CHECKSUM, bytes, limit, trials)?;
+    }
+    println!("\nFlipped bits, no checksum\n{FLIPS}");
+    for (bytes, limit, flipped, trials) in [
+        (16, 1, 1, 20_000),
+        (16, 1, 2, 20_000),
+        (16, 1, 3, 100_000),
+        (16, 2, 1, 20_000),
+        (16, 2, 2, 20_000),
+        (16, 2, 3, 20_000),
+        (16, 2, 4, 20_000),
+        (64, 1, 1, 20_000),
+        (64, 1, 3, 100_000),
+        (64, 2, 1, 20_000),
+        (64, 2, 2, 20_000),
+        (64, 2, 4, 20_000),
+        (512, 1, 1, 10_000),
+        (512, 1, 3, 10_000),
+        (512, 2, 2, 10_000),
+    ] {
+        flips(&tables, NO_CHECKSUM, bytes, limit, flipped, trials)?;
     }
     Ok(())
 }

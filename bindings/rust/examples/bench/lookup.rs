@@ -166,6 +166,8 @@ pub enum Summing {
     Anew,
     /// The range's sum is corrected by what the flipped bits weigh.
     Corrected,
+    /// There is none: every candidate passes.
+    Nothing,
 }
 
 /// What a repair finds: how many patterns pass (none for an intact packet), and the last of them.
@@ -213,7 +215,7 @@ impl Reader {
         let syndrome = self.crc.remainder(packet);
         let sent = total(&packet[range.clone()]);
         let mut found = Found { intact: false, passing: 0, count: 0, positions: [0; 4] };
-        if syndrome == 0 && passes(sent) {
+        if syndrome == 0 && (summing == Summing::Nothing || passes(sent)) {
             found.intact = true;
             return found;
         }
@@ -227,6 +229,7 @@ impl Reader {
             found.positions[..positions.len()].copy_from_slice(positions);
         };
         match summing {
+            Summing::Nothing => self.lookup.patterns(syndrome.into(), 8 * packet.len(), limit, &mut note),
             Summing::Anew => self.lookup.patterns(syndrome.into(), 8 * packet.len(), limit, &mut |positions| {
                 flip(copy, positions);
                 if passes(total(&copy[range.clone()])) {

@@ -5,7 +5,9 @@
 mod lookup;
 
 use lookup::{Found, Lookup, Reader, Summing, TableCrc};
-use rangqoda::{catalogue::CRC_16_XMODEM as CRC, remainder, seal, stamp, Mark, Tables, Verdict, CCITT, FIVE};
+use rangqoda::{
+    catalogue::CRC_16_XMODEM as CRC, remainder, seal, stamp, Mark, Tables, Verdict, CCITT, FIVE, NO_CHECKSUM,
+};
 use std::hint::black_box;
 use std::time::{Duration, Instant};
 
@@ -222,6 +224,51 @@ fn repairs(random: &mut Random, tables: &Tables, reader: &Reader, verifying: Dur
     }
 }
 
+/// The same packets taken for ones without a checksum: what is left of the time when candidates are only counted.
+fn unchecked(random: &mut Random, tables: &Tables, reader: &Reader) {
+    println!(
+        "Repair of damaged packets without a checksum (CCITT; as many bits flipped as the limit). Packets a second."
+    );
+    println!("bytes  N   library  with the checksum     ratio    method     ratio");
+    for (len, limit, packets, rounds) in
+        [(64, 1, 200, 7), (64, 2, 200, 7), (64, 3, 100, 7), (512, 1, 200, 7), (512, 2, 100, 7), (512, 3, 5, 5)]
+    {
+        let received = damaged(random, packets, len, limit);
+        for packet in &received {
+            let (mut copy, mut other) = (vec![0; len], vec![0; len]);
+            let verdict = tables.repair(CRC, NO_CHECKSUM, limit, packet, &mut copy).unwrap();
+            let found = reader.repair(NO_CHECKSUM, limit, packet, &mut other, Summing::Nothing);
+            assert!(same(verdict, found) && copy == other, "{verdict:?} {found:?}");
+        }
+        let mut library = |output: &mut Vec<u8>| {
+            for packet in &received {
+                black_box(tables.repair(CRC, NO_CHECKSUM, limit, packet, output).unwrap());
+            }
+        };
+        let mut weighing = |output: &mut Vec<u8>| {
+            for packet in &received {
+                black_box(tables.repair(CRC, 0..len - 2, limit, packet, output).unwrap());
+            }
+        };
+        let mut method = |output: &mut Vec<u8>| {
+            for packet in &received {
+                black_box(reader.repair(NO_CHECKSUM, limit, packet, output, Summing::Nothing));
+            }
+        };
+        let clear = |output: &mut Vec<u8>| output.fill(0);
+        let times = race(rounds, &mut vec![0; len], clear, &mut [&mut library, &mut weighing, &mut method]);
+        let rate = |time: Duration| packets as f64 / time.as_secs_f64();
+        println!(
+            "{len:5}  {limit}  {:8.0}  {:17.0}  {:8.4}  {:8.0}  {:8.4}",
+            rate(times[0]),
+            rate(times[1]),
+            ratio(times[1], times[0]),
+            rate(times[2]),
+            ratio(times[2], times[0]),
+        );
+    }
+}
+
 fn remainders(random: &mut Random, crc: &TableCrc) {
     println!("Remainder of a packet (CCITT). Nanoseconds a packet.");
     println!("bytes   library  table-driven CRC  ratio");
@@ -273,4 +320,6 @@ fn main() {
     repairs(random, &tables, &reader, verifying);
     println!();
     remainders(random, &reader.crc);
+    println!();
+    unchecked(random, &tables, &reader);
 }
