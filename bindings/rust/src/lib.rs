@@ -106,7 +106,8 @@ pub const NO_POSITION: u16 = 65535;
 /// The range of a packet that carries no checksum, accepted with every length: a repair then goes by the CRC alone. Any other
 /// range with start = end says the same. So take care that a range that was computed is not empty by mistake.
 ///
-/// Without a checksum false repairs are far more frequent: the repository's README has them counted.
+/// Without a checksum false repairs are hundreds of times as frequent: with [`CCITT`], of 64 bytes with three flipped bits 1,464
+/// of 100,000 at N = 1, and of 16 bytes with four 3,272 of 20,000 at N = 2. Take N = 1 there.
 pub const NO_CHECKSUM: Range<usize> = 0..0;
 
 /// The most positions of a pattern.
