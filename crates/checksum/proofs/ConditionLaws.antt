@@ -40,8 +40,8 @@ module _ (k : Check) (f : ℕ) where
   past-unfit h = simp (lt-ltb _ _ h, or-true)
 
   -- an empty range has no room for a field
-  pub empty-unfit : k .from ≡ k .to → unfitField k f ≡ true
-  empty-unfit e = by-order f (k .from) (λ h. before-unfit h) (λ h. past-unfit (omega arith))
+  pub empty-field-unfit : k .from ≡ k .to → unfitField k f ≡ true
+  empty-field-unfit e = by-order f (k .from) (λ h. before-unfit h) (λ h. past-unfit (omega arith))
 
   pub field-unfit : k .from ≤ f → f + 2 ≤ k .to → unfitField k f ≡ eqb ((f - k .from) % 2) 1
   unfolding unfitField

@@ -29,8 +29,8 @@ ghost use Rattle.checksum.specs.Calls.{
   stampPacket,
 };
 
-// What the second check is taken by: the bytes of the packet from `from` on and before `to`. Where these are equal there is
-// none.
+// What the second check is taken by: the bytes of the packet from `from` on and before `to`. Where `from` and `to` are equal
+// there is no second check.
 pub struct Check {
     pub from: usize,
     pub to: usize,

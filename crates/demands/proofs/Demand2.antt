@@ -6,7 +6,7 @@ use mathlib.Core.Bool.{true, false}
 use mathlib.Core.List.{List}
 use Prim.Native.Nat.{ℕ, _+_, _-_, _*_, _^_, _<_, _≤_}
 use native.Mathlib.Omega.{arith}
-use borrow.Author.Tests.{eq-eqb}
+use borrow.Author.Tests.{eq-eqb, eqb-true}
 use lib.Bits.{bitXor}
 use lib.ListN.{length, getD}
 use Rattle.base.specs.Lists.{All}
@@ -29,6 +29,7 @@ use Rattle.checksum.specs.Checksum.{total, reduced, range, passes, withField, s
 use Rattle.checksum.specs.Calls.{sumCall, stampConditions, stampCall, stampPacket}
 use Rattle.checksum.specs.declared.Check.{Check}
 use Rattle.checksum.proofs.SumLaws.{sum-reduced}
+use Rattle.checksum.proofs.RangeLaws.{sum-decides}
 use Rattle.checksum.proofs.ConditionLaws.{FitRange, fit-range, fit-field}
 use Rattle.checksum.proofs.StampLaws.{stamped-length, stamped-bytes, stamp-passes, stamped-field, stamped-other}
 use Rattle.checksum.proofs.SealedRangeLaws.{sealed-passes}
@@ -206,6 +207,13 @@ module _ (g : ℕ) (k : Check) (f : ℕ) (s : List ℕ) (b : Bytes s) (h : stamp
   -- the range of an accepted stamp passes
   pub stamp-made-to-pass : passes k (stampPacket g k f s) ≡ true
   stamp-made-to-pass = ap (passes k) stamp-leaves ∙ stamp-passes k f s b inside (conditions-clear 10)
+
+  -- that is by its sum: it is not empty, and its sum is FFFFh
+  pub stamped-sum : (k .from < k .to) × (sumCall (range (k .from) (k .to) (stampPacket g k f s)) ≡ 65535)
+  stamped-sum =
+      let fits = fit-field k f (conditions-clear 10) in
+      let some : k .from < k .to = omega arith in
+      (some, eqb-true _ _ (sym (sum-decides k (stampPacket g k f s) (λ e. omega arith)) ∙ stamp-made-to-pass))
 
   -- the field holds what the sum of the range, with zeros in the field, lacks to FFFFh; and no other byte changed
   pub stamp-writes : (getD (stampPacket g k f s) f 0 * 256 + getD (stampPacket g k f s) (f + 1) 0 ≡ 65535 - sumCall (range (k .from) (k .to) (withField f 0 s)))

@@ -1,68 +1,104 @@
 -- Packets that carry no checksum (docs/RULES.md, section 6): the range of their check begins and ends at one place. About the
 -- calls: repairCall with repairOutput, which then go by the CRC alone, and stampCall and makeCall, which have no field there.
-use mathlib.Core.Path.{_≡_, sym, ap, _∙_}
-use mathlib.Core.Bool.{Bool, true, false, _&&_, and-true}
+use mathlib.Core.Path.{_≡_, sym, _∙_}
+use mathlib.Core.Bool.{false, and-true}
 use mathlib.Core.Logic.{_↔_}
 use mathlib.Core.List.{List}
-use Prim.Native.Nat.{ℕ, _+_, _*_, _≤_}
+use Prim.Native.Nat.{ℕ, _+_, _*_, _<_, _≤_}
 use native.Mathlib.Omega.{arith}
-use borrow.Author.Tests.{le-ltb, eq-eqb, ne-eqb, eqb-true}
-use lib.Dec.{eqb, ltb}
+use borrow.Author.Tests.{lt-ltb, le-ltb, eq-eqb, ne-eqb, eqb-true}
+use lib.Dec.{eqb}
 use lib.ListN.{length}
 use Rattle.base.specs.Lists.{In, Ascending}
 use Rattle.base.specs.Outcome.{refused, accepted, judge}
 use Rattle.base.proofs.JudgeLaws.{earlier, judge-applied}
-use Rattle.packet.specs.Packet.{Bytes, bits, unfitLength, remainder, flips, difference}
+use Rattle.packet.specs.Packet.{Bytes, bits, remainder, flips, difference}
 use Rattle.packet.specs.declared.Crc.{Crc}
 use Rattle.packet.proofs.PacketLaws.{fit-length}
 use Rattle.checksum.specs.Checksum.{checkOf, passes, unfitRange}
 use Rattle.checksum.specs.Calls.{stampConditions, stampCall}
 use Rattle.checksum.specs.declared.Check.{Check}
-use Rattle.checksum.proofs.ConditionLaws.{range-unfit, empty-unfit}
+use Rattle.checksum.proofs.ConditionLaws.{range-unfit, empty-field-unfit}
 use Rattle.checksum.proofs.RangeLaws.{no-check-passes}
 use Rattle.maker.specs.Calls.{makeConditions, makeCall}
+use Rattle.tables.specs.Tables.{stepTable, firstTable}
 use Rattle.patterns.proofs.SiftLaws.{sift-all}
 use Rattle.pages.specs.Sequences.{Lending}
-use Rattle.repair.specs.Verdicts.{passesBoth, packetList, candidates, Said, intact, repaired, several, nothing, Leads, leading}
-use Rattle.repair.specs.Calls.{repairCall, repairOutput}
+use Rattle.repair.specs.Verdicts.{passesBoth, packetList, candidates, Said, intact, repaired, several, nothing, verdict, Leads, leading}
+use Rattle.repair.specs.Calls.{repairConditions, repairCall, repairOutput}
 use Rattle.repair.proofs.VerdictLaws.{candidates-leading}
 use Rattle.demands.specs.Demand3.{Supposed, repairWith}
-use Rattle.demands.proofs.Demand3.{fit-of, the-leading, says-intact, says-otherwise, the-packet-sent, the-bits-flipped}
+use Rattle.demands.proofs.Demand3.{fit-of, repair-accepted, the-leading, says-intact, says-otherwise, the-packet-sent, the-bits-flipped}
 
--- ---- which ranges, and what stamp and maker say of them ----
+-- ---- of any packet and settings, accepted or not ----
 
--- such a range is accepted wherever it does not reach into the CRC, and so at 0 with every accepted length
-pub accepted-anywhere : (n l a : ℕ) → unfitRange n l (checkOf a a) ≡ ltb l (8 * a + n)
-accepted-anywhere n l a = range-unfit n l (checkOf a a) (omega arith)
-
-pub accepted-at-0 : (n l : ℕ) → unfitLength n l ≡ false → unfitRange n l (checkOf 0 0) ≡ false
-accepted-at-0 n l h =
-    let long : 8 * 0 + n ≤ l = omega (arith, fit-length n l h .0) in
-    accepted-anywhere n l 0 ∙ le-ltb _ _ long
-
-module _ (k : Check) (none : k .from ≡ k .to) where
-  -- stamp and maker refuse it by 10, unless an earlier condition applies
+module _ (k : Check) (one-place : k .from ≡ k .to) where
+  -- stamp and maker refuse such a range by 10, unless an earlier condition applies
   pub stamp-without-a-field : (g f : ℕ) (s : List ℕ) → stampCall g k f s ≡ judge (earlier 10 (stampConditions g (bits s) k f)) refused (refused 10)
-  stamp-without-a-field g f s = judge-applied 10 (stampConditions g (bits s) k f) _ (empty-unfit k f none)
+  stamp-without-a-field g f s = judge-applied 10 (stampConditions g (bits s) k f) _ (empty-field-unfit k f one-place)
 
   pub make-without-a-field : (c : Crc) (seed f : ℕ) (s : List ℕ) → makeCall c seed k f s ≡ judge (earlier 10 (makeConditions c (bits s) k f)) refused (refused 10)
-  make-without-a-field c seed f s = judge-applied 10 (makeConditions c (bits s) k f) _ (empty-unfit k f none)
+  make-without-a-field c seed f s = judge-applied 10 (makeConditions c (bits s) k f) _ (empty-field-unfit k f one-place)
 
   -- both checks are passed where the CRC is
   passes-by-crc : (c : Crc) (t : List ℕ) → passesBoth c k t ≡ eqb (remainder c t) 0
   unfolding passesBoth
-  passes-by-crc c t = rw (no-check-passes k t none) (and-true _)
+  passes-by-crc c t = rw (no-check-passes k t one-place) (and-true _)
+
+  -- the candidates are the whole list
+  pub all-candidates : (c : Crc) (limit : ℕ) (s : List ℕ) → candidates c k limit s ≡ packetList c limit s
+  unfolding candidates
+  all-candidates c limit s = sift-all (λ ps. passes k (flips s ps)) (packetList c limit s) (λ ps _. no-check-passes k (flips s ps) one-place)
+
+-- a range [a,a) that reaches into the CRC is refused by 9, unless an earlier condition applies
+pub refused-beyond : (c : Crc) (limit : ℕ) (s : List ℕ) (a : ℕ) → bits s < 8 * a + c .generator .degree → (lent : Lending) (named : List ℕ)
+    → let r = repairWith c (checkOf a a) limit s lent in repairCall r named ≡ judge (earlier 9 (repairConditions r)) refused (refused 9)
+refused-beyond c limit s a past lent named =
+    judge-applied 9 (repairConditions (repairWith c (checkOf a a) limit s lent)) _
+    (range-unfit (c .generator .degree) (bits s) (checkOf a a) (omega arith) ∙ lt-ltb _ _ past)
+
+-- wherever such a range is accepted, a repair that names the same answers the same, and leaves the same output
+pub same-anywhere : (c : Crc) (k j : Check) (limit : ℕ) (s : List ℕ) → k .from ≡ k .to → j .from ≡ j .to
+    → unfitRange (c .generator .degree) (bits s) k ≡ false → unfitRange (c .generator .degree) (bits s) j ≡ false → (lent : Lending)
+    → ((named : List ℕ) → repairCall (repairWith c k limit s lent) named ≡ repairCall (repairWith c j limit s lent) named)
+    × (repairOutput (repairWith c k limit s lent) ≡ repairOutput (repairWith c j limit s lent))
+same-anywhere c k j limit s at-k at-j fit-k fit-j lent =
+    let passing = passes-by-crc k at-k c s ∙ sym (passes-by-crc j at-j c s) in
+    let listed = all-candidates k at-k c limit s ∙ sym (all-candidates j at-j c limit s) in
+    (λ named. rw (fit-k, fit-j, passing, listed), rw (fit-k, fit-j, passing, listed))
 
 -- ---- a repair of an accepted packet ----
 
-module _ (c : Crc) (k : Check) (limit : ℕ) (s : List ℕ) (supposed : Supposed c k limit s) (none : k .from ≡ k .to) where
-  -- the candidates are the whole list
-  pub all-candidates : candidates c k limit s ≡ packetList c limit s
-  unfolding candidates
-  all-candidates = sift-all (λ ps. passes k (flips s ps)) (packetList c limit s) (λ ps _. no-check-passes k (flips s ps) none)
+module _ (c : Crc) (k : Check) (limit : ℕ) (s : List ℕ) (supposed : Supposed c k limit s) where
+  -- what is lent with right tables
+  abbrev right : List ℕ → Lending
+  right out = record { steps = stepTable (c .generator .degree) (c .generator .coefficients); firsts = firstTable (c .generator .degree) (c .generator .coefficients); output = out }
 
+  -- [a,a) is accepted wherever it does not reach into the CRC, with right tables and an output as long as the packet
+  pub accepted-anywhere : (a : ℕ) → 8 * a + c .generator .degree ≤ bits s → (out named : List ℕ) → length out ≡ length s
+      → repairCall (repairWith c (checkOf a a) limit s (right out)) named ≡ accepted (verdict c (checkOf a a) limit s named)
+  accepted-anywhere a within = repair-accepted c (checkOf a a) limit s (moved a within)
+    where
+      moved : (a : ℕ) → 8 * a + c .generator .degree ≤ bits s → Supposed c (checkOf a a) limit s
+      moved a within =
+          record {
+            bytes = supposed .bytes;
+            numbered = supposed .numbered;
+            fitGenerator = supposed .fitGenerator;
+            fitLength = supposed .fitLength;
+            fitValues = supposed .fitValues;
+            fitLimit = supposed .fitLimit;
+            fitRange = range-unfit (c .generator .degree) (bits s) (checkOf a a) (omega arith) ∙ le-ltb _ _ within;
+          }
+
+  -- so [0,0) always is
+  pub accepted-at-0 : (out named : List ℕ) → length out ≡ length s
+      → repairCall (repairWith c (checkOf 0 0) limit s (right out)) named ≡ accepted (verdict c (checkOf 0 0) limit s named)
+  accepted-at-0 = accepted-anywhere 0 (omega (arith, fit-length (c .generator .degree) (bits s) (supposed .fitLength) .0))
+
+module _ (c : Crc) (k : Check) (limit : ℕ) (s : List ℕ) (supposed : Supposed c k limit s) (one-place : k .from ≡ k .to) where
   all-lead : leading c k limit s ≡ packetList c limit s
-  all-lead = sym (candidates-leading c k limit s (fit-of supposed) (supposed .bytes)) ∙ all-candidates
+  all-lead = sym (candidates-leading c k limit s (fit-of supposed) (supposed .bytes)) ∙ all-candidates k one-place c limit s
 
   listed-leads : (ps : List ℕ) → In ps (packetList c limit s) ↔ Leads c k limit s ps
   listed-leads ps = rw all-lead at (the-leading c k limit s supposed .0 ps)
@@ -72,8 +108,8 @@ module _ (c : Crc) (k : Check) (limit : ℕ) (s : List ℕ) (supposed : Supposed
     pub says-intact-by-crc : v ≡ intact ↔ (remainder c s ≡ 0)
     says-intact-by-crc =
         let says = says-intact c k limit s supposed lent named v told in (
-          λ h. eqb-true _ _ (sym (passes-by-crc k none c s) ∙ says .0 h),
-          λ h. says .1 (passes-by-crc k none c s ∙ eq-eqb _ _ h),
+          λ h. eqb-true _ _ (sym (passes-by-crc k one-place c s) ∙ says .0 h),
+          λ h. says .1 (passes-by-crc k one-place c s ∙ eq-eqb _ _ h),
         )
 
     -- of any other packet None, Repaired or Several if none, exactly one or more sets are listed, and only then; Several with
@@ -83,7 +119,7 @@ module _ (c : Crc) (k : Check) (limit : ℕ) (s : List ℕ) (supposed : Supposed
         × ((p : List ℕ) → v ≡ repaired p ↔ (In p (packetList c limit s) × ((q : List ℕ) → In q (packetList c limit s) → q ≡ p)))
         × ((n : ℕ) (q : List ℕ) → v ≡ several n q ↔ ((2 ≤ length (packetList c limit s)) × (n ≡ length (packetList c limit s)) × (q ≡ named)))
     says-otherwise-by-list h =
-        let says = says-otherwise c k limit s supposed lent named v told (passes-by-crc k none c s ∙ ne-eqb _ _ h) in (
+        let says = says-otherwise c k limit s supposed lent named v told (passes-by-crc k one-place c s ∙ ne-eqb _ _ h) in (
           (
             λ e ps i. says .0 .0 e ps (listed-leads ps .0 i),
             λ empty. says .0 .1 (λ ps l. empty ps (listed-leads ps .1 l)),
@@ -98,10 +134,10 @@ module _ (c : Crc) (k : Check) (limit : ℕ) (s : List ℕ) (supposed : Supposed
     -- of what was sent, if it passed the CRC and at most N bits are different: None is not said, and a repair is that packet
     pub sent-by-crc : (t : List ℕ) → Bytes t → length s ≡ length t → remainder c t ≡ 0 → length (difference s t) ≤ limit
         → (v ≡ nothing → ⊥) × ((p : List ℕ) → v ≡ repaired p → (flips s p ≡ t) × (repairOutput (repairWith c k limit s lent) ≡ t))
-    sent-by-crc t bt same zero = the-packet-sent c k limit s supposed lent named v told t bt same (passes-by-crc k none c t ∙ eq-eqb _ _ zero)
+    sent-by-crc t bt same zero = the-packet-sent c k limit s supposed lent named v told t bt same (passes-by-crc k one-place c t ∙ eq-eqb _ _ zero)
 
     -- the same of any set of at most N bits that flipped on the way
     pub flipped-by-crc : (t ps : List ℕ) → Bytes t → Ascending (bits t) 0 ps → length ps ≤ limit → s ≡ flips t ps → remainder c t ≡ 0
         → (v ≡ nothing → ⊥) × ((p : List ℕ) → v ≡ repaired p → (flips s p ≡ t) × (repairOutput (repairWith c k limit s lent) ≡ t))
     flipped-by-crc t ps bt ascends few received zero =
-        the-bits-flipped c k limit s supposed lent named v told t ps bt ascends few received (passes-by-crc k none c t ∙ eq-eqb _ _ zero)
+        the-bits-flipped c k limit s supposed lent named v told t ps bt ascends few received (passes-by-crc k one-place c t ∙ eq-eqb _ _ zero)

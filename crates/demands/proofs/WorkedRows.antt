@@ -34,6 +34,6 @@ worked-rows =
       row16 = refl;
       row17 = (refl, refl);
       row18 = (refl, refl, refl);
-      row19 = (λ named. refl, λ named. refl, λ named. refl, λ named. refl);
+      row19 = (λ limit named. refl, λ named. refl, λ named. refl, λ named. refl);
       row20 = (refl, refl, refl);
     }

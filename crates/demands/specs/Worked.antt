@@ -83,7 +83,7 @@ pub record Worked : Type 0 where
       × (makeCall (crcOf 0x11021 0 0) 0 (checkOf 0 6) 4 blank ≡ accepted 0xA3D95FA8)
       × (makePacket (crcOf 0x11021 0xFFFF 0) 0 (checkOf 0 6) 4 blank ≡ 0x3C ∷ 0x47 ∷ 0xD1 ∷ 0xAA ∷ 0xF2 ∷ 0x0D ∷ 0x5C ∷ 0x27 ∷ [])
   -- five, no second check, N 1: 7F FE 05; 7F FF 05; FF FD 05; FF FF 06: Intact; Several, 2; Repaired {9}; None
-  pub row19 : ((named : List ℕ) → verdict (crcOf 53 0 0) noCheck 1 (0x7F ∷ 0xFE ∷ 0x05 ∷ []) named ≡ intact)
+  pub row19 : ((limit : ℕ) (named : List ℕ) → verdict (crcOf 53 0 0) noCheck limit (0x7F ∷ 0xFE ∷ 0x05 ∷ []) named ≡ intact)
       × ((named : List ℕ) → verdict (crcOf 53 0 0) noCheck 1 (0x7F ∷ 0xFF ∷ 0x05 ∷ []) named ≡ several 2 named)
       × ((named : List ℕ) → verdict (crcOf 53 0 0) noCheck 1 (0xFF ∷ 0xFD ∷ 0x05 ∷ []) named ≡ repaired (9 ∷ []))
       × ((named : List ℕ) → verdict (crcOf 53 0 0) noCheck 1 (0xFF ∷ 0xFF ∷ 0x06 ∷ []) named ≡ nothing)
