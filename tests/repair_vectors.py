@@ -124,6 +124,8 @@ class Group:
             return f"refused {number} {fnv(before)}"
         kind, passing = verdict(generator, a, e, limit, packet, values)
         kinds[kind] = kinds.get(kind, 0) + 1
+        if a == e and kind != "intact":
+            listed.add(min(len(passing), 2))
         copy = flip(packet, passing[0]) if kind == "repaired" else before
         published = {"intact": packet, "repaired": copy}.get(kind, b"")
         shown = {"repaired": "".join(f"{p} " for p in (passing or [()])[0]), "several": f"{len(passing)} 0 {0 if a == e else 65535} "}
@@ -162,6 +164,7 @@ def last_end(generator, length):
 
 groups = []
 kinds = {}
+listed = set()  # how many patterns the lists have where there is no checksum: none, one, more
 
 
 def worked_by_hand():
@@ -274,28 +277,26 @@ def with_values():
 
 def without_a_checksum():
     """Packets that carry none, so sealed only: every place for the range, those that reach into the CRC too; and with each bit
-    flipped. The lists must have no, one and many patterns."""
-    counts = set()
+    flipped."""
+    listed.clear()
     for generator, length in ((FIVE, 3), (FIVE, 6), (CCITT, 4), (CCITT, 6), (THREE, 3), (EIGHT, 4)):
         group = Group(generator)
         bits, end = 8 * length, last_end(generator, length)
         packet = sealed(random.randbytes(length), generator)
         assert not passes(packet, 0, end)
-        for place, limit in product(range(length + 2), (1, 2, 3)):
-            group.add(place, place, limit, flip(packet, random.sample(range(bits), place % (limit + 2))))
+        for place, flips in product(range(length + 2), range(4)):
+            group.add(place, place, 2, flip(packet, random.sample(range(bits), flips)))
         for limit in (1, 2, 3):
             group.add(end, end, limit, packet, 0, bits)
-            counts.update(min(len(verdict(generator, 0, 0, limit, flip(packet, (p,)))[1]), 3) for p in range(bits))
             group.add(0, 0, limit, flip(packet, random.sample(range(bits), 2)), 0, bits)
-            counts.update(min(len(verdict(generator, 0, 0, limit, random.randbytes(length))[1]), 3) for _ in range(9))
         for values in ((3, 0), (0, 5), (7, 7)):
             group.add(1, 1, 2, random.randbytes(length), values=values)
-    assert counts == {0, 1, 2, 3}, counts
     ccitt = Group(CCITT)
     for length, limit in ((64, 1), (64, 2), (64, 3), (512, 1), (512, 2)):
         packet = sealed(random.randbytes(length), CCITT)
         ccitt.add(length - 2, length - 2, limit, flip(packet, random.sample(range(8 * length), limit - 1)), 40, 3)
         ccitt.add(length - 1, length - 1, limit, packet)
+    assert listed == {0, 1, 2}, listed
 
 
 def refused_in_order():

@@ -445,11 +445,12 @@ static void no_checksum(void)
                            sizeof verdict) == RANGQODA_ACCEPTED);
     EXPECT(verdict[0] != RANGQODA_INTACT);
     for (unsigned k = 0; k < 24 * 25 * 3 * 4; k++) {
-        /* 24 is no position: one flip alone */
+        /* no flip where p == q, one where q is 24, which is no position, and else two */
         unsigned p = k % 24, q = k / 24 % 25, place = k / 600 % 3, limit = 1 + k / 1800;
         uint8_t mark[RANGQODA_MARK_BYTES] = { RANGQODA_MARK_START }, right = RANGQODA_INTACT, records[RANGQODA_RECORD_BYTES];
         uint64_t written, listed = 0;
         size_t used;
+        int within = p == q || q == 24 || limit > 1;
 
         memcpy(packet, sent, 3);
         packet[2 - p / 8] = (uint8_t)(packet[2 - p / 8] ^ 1u << p % 8);
@@ -467,10 +468,10 @@ static void no_checksum(void)
         wrong += rangqoda_repair(RANGQODA_FIVE, 0, 0, place, place, limit, step, 32, first, 32, packet, 3, output, 3, verdict,
                                  sizeof verdict) != 0;
         wrong += verdict[0] != right || verdict[7] * 256u + verdict[8] != listed;
-        wrong += right == RANGQODA_NONE && (p == q || q == 24 || limit > 1);
+        wrong += right == RANGQODA_NONE && within;
         wrong += right == RANGQODA_REPAIRED ? rangqoda_remainder(RANGQODA_FIVE, 0, 0, output, 3, &left) != 0 || left != 0
                                             : output[0] != 0xAA || output[1] != 0xAA || output[2] != 0xAA;
-        wrong += right == RANGQODA_REPAIRED && memcmp(output, sent, 3) != 0;
+        wrong += right == RANGQODA_REPAIRED && within && memcmp(output, sent, 3) != 0;
         kinds[right & 3]++;
     }
     EXPECT(wrong == 0);

@@ -1,8 +1,8 @@
 //! What repairs make of damage that is greater than their limit: `cargo run --release --example trials`.
 //!
-//! First, packets of noise. Nothing was sent that they could be repaired to, so every repair of one is false. Beside the
-//! count stands the estimate that can be made without a trial: the sets of at most N positions, divided by 2^16 (the CRC)
-//! and by 65,535 (the checksum), are those expected to pass.
+//! First, packets of noise. Nothing was sent that they could be repaired to, so every repair of one is false, and so is every
+//! Intact. Beside the count stands the estimate that can be made without a trial: the sets of at most N positions, divided by
+//! 2^16 (the CRC) and by 65,535 (the checksum), are those expected to pass.
 //!
 //! Then packets that were stamped and sealed, with some bits flipped: how many are repaired to what was sent, and how many
 //! to something else.
@@ -12,7 +12,7 @@
 use rangqoda::{catalogue::CRC_16_XMODEM as CRC, seal, stamp, Refusal, Tables, Verdict, CCITT, NO_CHECKSUM};
 use std::ops::Range;
 
-const NOISE: &str = "bytes  N expected to pass   trials repaired  several";
+const NOISE: &str = "bytes  N expected to pass   trials repaired  several   intact";
 const FLIPS: &str = "bytes  N  flips   trials  rightly  falsely  several     none";
 
 /// How many sets of at most `limit` positions there are among `bits`.
@@ -63,18 +63,19 @@ fn all_but_the_crc(bytes: usize) -> Range<usize> {
 fn noise(tables: &Tables, range: Range<usize>, bytes: usize, limit: usize, trials: usize) -> Result<(), Refusal> {
     let mut state = 1;
     let mut copy = vec![0; bytes];
-    let (mut repaired, mut several) = (0, 0);
+    let (mut repaired, mut several, mut intact) = (0, 0, 0);
     for _ in 0..trials {
         let packet = random_bytes(bytes, &mut state);
         match tables.repair(CRC, range.clone(), limit, &packet, &mut copy)? {
             Verdict::Repaired(_) => repaired += 1,
             Verdict::Several { .. } => several += 1,
-            Verdict::Intact | Verdict::None => {}
+            Verdict::Intact => intact += 1,
+            Verdict::None => {}
         }
     }
     let sums = if range.is_empty() { 1.0 } else { 65535.0 };
     let expected = sets_of_at_most(limit, 8 * bytes) / 65536.0 / sums;
-    println!("{bytes:>5} {limit:>2} {expected:>16.9} {trials:>8} {repaired:>8} {several:>8}");
+    println!("{bytes:>5} {limit:>2} {expected:>16.9} {trials:>8} {repaired:>8} {several:>8} {intact:>8}");
     Ok(())
 }
 

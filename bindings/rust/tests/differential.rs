@@ -984,7 +984,7 @@ fn no_checksum_at_every_place() {
         let pairs = (0..bits).flat_map(|p| (0..=p).map(move |q| if p == q { vec![p] } else { vec![q, p] }));
         for pattern in [vec![]].into_iter().chain(pairs) {
             let packet = reference::flipped(&sent, &pattern);
-            let limit = random.within(1, 3);
+            let limit = random.within(1, 4);
             let lent = RepairLent { output: random.bytes(len), verdict: random.bytes(VERDICT_BYTES) };
             let found = |place: usize| {
                 let call = RepairCall { crc, start: place, end: place, limit, step, first, packet: &packet };
@@ -1003,6 +1003,9 @@ fn no_checksum_at_every_place() {
             assert_eq!(answer, Ok(by_list));
             if pattern.len() <= limit {
                 assert_ne!(answer, Ok(Verdict::None), "the packet sent is within the limit");
+                if let Ok(Verdict::Repaired(_)) = answer {
+                    assert_eq!(told.1.output, sent);
+                }
             }
             for place in 1..len + 2 {
                 if 8 * place <= 8 * len - n {

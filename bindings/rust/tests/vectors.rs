@@ -108,7 +108,7 @@ fn verdicts_of_five() {
     assert_eq!(output, [0xFF, 0xFF, 0x05]);
 }
 
-/// The same packets without a second check, and one of remainder 0 whose sum is not FFFFh.
+/// Packets without a second check, the first of remainder 0 with a sum that is not FFFFh.
 #[test]
 fn verdicts_of_five_without_a_checksum() {
     let tables = Tables::new(FIVE).unwrap();

@@ -9,6 +9,7 @@ use rangqoda::{
     catalogue::CRC_16_XMODEM as CRC, remainder, seal, stamp, Mark, Tables, Verdict, CCITT, FIVE, NO_CHECKSUM,
 };
 use std::hint::black_box;
+use std::ops::Range;
 use std::time::{Duration, Instant};
 
 struct Random(u64);
@@ -177,40 +178,61 @@ fn same(verdict: Verdict, found: Found) -> bool {
     }
 }
 
+/// What is repaired: how many packets, of which length, at which limit; and in how many rounds.
+const REPAIRS: [(usize, usize, usize, usize); 6] =
+    [(64, 1, 200, 7), (64, 2, 200, 7), (64, 3, 100, 7), (512, 1, 200, 7), (512, 2, 100, 7), (512, 3, 5, 5)];
+
+/// Repairs a packet into an output.
+type Repair<'a> = &'a dyn Fn(&[u8], &mut [u8]);
+
+/// The time that each of three ways to repair takes for all packets.
+fn race_repairs(rounds: usize, received: &[Vec<u8>], ways: [Repair<'_>; 3]) -> Vec<Duration> {
+    let [mut first, mut second, mut third] = ways.map(|way| {
+        move |output: &mut Vec<u8>| {
+            for packet in received {
+                way(packet, output);
+            }
+        }
+    });
+    let clear = |output: &mut Vec<u8>| output.fill(0);
+    race(rounds, &mut vec![0; received[0].len()], clear, &mut [&mut first, &mut second, &mut third])
+}
+
+/// Holds the library's repairs to the method's.
+fn compare_repairs(
+    tables: &Tables,
+    reader: &Reader,
+    range: Range<usize>,
+    limit: usize,
+    packet: &[u8],
+    summing: Summing,
+) {
+    let (mut copy, mut other) = (vec![0; packet.len()], vec![0; packet.len()]);
+    let verdict = tables.repair(CRC, range.clone(), limit, packet, &mut copy).unwrap();
+    let found = reader.repair(range, limit, packet, &mut other, summing);
+    assert!(same(verdict, found) && copy == other, "{verdict:?} {found:?}");
+}
+
 fn repairs(random: &mut Random, tables: &Tables, reader: &Reader, verifying: Duration) {
     println!("Repair of damaged packets (CCITT; as many bits flipped as the limit). Packets a second.");
     println!("bytes  N   library  verifying tables    method     ratio  method, sums corrected     ratio");
-    for (len, limit, packets, rounds) in
-        [(64, 1, 200, 7), (64, 2, 200, 7), (64, 3, 100, 7), (512, 1, 200, 7), (512, 2, 100, 7), (512, 3, 5, 3)]
-    {
+    for (len, limit, packets, rounds) in REPAIRS {
         let received = damaged(random, packets, len, limit);
         let range = 0..len - 2;
         for packet in &received {
-            let (mut copy, mut other) = (vec![0; len], vec![0; len]);
-            let verdict = tables.repair(CRC, range.clone(), limit, packet, &mut copy).unwrap();
-            for summing in [Summing::Anew, Summing::Corrected] {
-                other.fill(0);
-                let found = reader.repair(range.clone(), limit, packet, &mut other, summing);
-                assert!(same(verdict, found) && copy == other, "{verdict:?} {found:?}");
-            }
+            compare_repairs(tables, reader, range.clone(), limit, packet, Summing::Anew);
+            compare_repairs(tables, reader, range.clone(), limit, packet, Summing::Corrected);
         }
-        let mut library = |output: &mut Vec<u8>| {
-            for packet in &received {
-                black_box(tables.repair(CRC, range.clone(), limit, packet, output).unwrap());
-            }
+        let library = |packet: &[u8], output: &mut [u8]| {
+            black_box(tables.repair(CRC, range.clone(), limit, packet, output).unwrap());
         };
-        let mut anew = |output: &mut Vec<u8>| {
-            for packet in &received {
-                black_box(reader.repair(range.clone(), limit, packet, output, Summing::Anew));
-            }
+        let anew = |packet: &[u8], output: &mut [u8]| {
+            black_box(reader.repair(range.clone(), limit, packet, output, Summing::Anew));
         };
-        let mut corrected = |output: &mut Vec<u8>| {
-            for packet in &received {
-                black_box(reader.repair(range.clone(), limit, packet, output, Summing::Corrected));
-            }
+        let corrected = |packet: &[u8], output: &mut [u8]| {
+            black_box(reader.repair(range.clone(), limit, packet, output, Summing::Corrected));
         };
-        let clear = |output: &mut Vec<u8>| output.fill(0);
-        let times = race(rounds, &mut vec![0; len], clear, &mut [&mut library, &mut anew, &mut corrected]);
+        let times = race_repairs(rounds, &received, [&library, &anew, &corrected]);
         let rate = |time: Duration| packets as f64 / time.as_secs_f64();
         println!(
             "{len:5}  {limit}  {:8.0}  {:15.1}%  {:8.0}  {:8.4}  {:22.0}  {:8.4}",
@@ -224,39 +246,26 @@ fn repairs(random: &mut Random, tables: &Tables, reader: &Reader, verifying: Dur
     }
 }
 
-/// The same packets taken for ones without a checksum: what is left of the time when candidates are only counted.
+/// Packets damaged in the same way and taken for ones without a checksum, so that candidates are only counted; beside that the
+/// same packets with their checksum.
 fn unchecked(random: &mut Random, tables: &Tables, reader: &Reader) {
-    println!(
-        "Repair of damaged packets without a checksum (CCITT; as many bits flipped as the limit). Packets a second."
-    );
+    println!("The same without a checksum.");
     println!("bytes  N   library  with the checksum     ratio    method     ratio");
-    for (len, limit, packets, rounds) in
-        [(64, 1, 200, 7), (64, 2, 200, 7), (64, 3, 100, 7), (512, 1, 200, 7), (512, 2, 100, 7), (512, 3, 5, 5)]
-    {
+    for (len, limit, packets, rounds) in REPAIRS {
         let received = damaged(random, packets, len, limit);
         for packet in &received {
-            let (mut copy, mut other) = (vec![0; len], vec![0; len]);
-            let verdict = tables.repair(CRC, NO_CHECKSUM, limit, packet, &mut copy).unwrap();
-            let found = reader.repair(NO_CHECKSUM, limit, packet, &mut other, Summing::Nothing);
-            assert!(same(verdict, found) && copy == other, "{verdict:?} {found:?}");
+            compare_repairs(tables, reader, NO_CHECKSUM, limit, packet, Summing::Nothing);
         }
-        let mut library = |output: &mut Vec<u8>| {
-            for packet in &received {
-                black_box(tables.repair(CRC, NO_CHECKSUM, limit, packet, output).unwrap());
-            }
+        let library = |packet: &[u8], output: &mut [u8]| {
+            black_box(tables.repair(CRC, NO_CHECKSUM, limit, packet, output).unwrap());
         };
-        let mut weighing = |output: &mut Vec<u8>| {
-            for packet in &received {
-                black_box(tables.repair(CRC, 0..len - 2, limit, packet, output).unwrap());
-            }
+        let weighing = |packet: &[u8], output: &mut [u8]| {
+            black_box(tables.repair(CRC, 0..len - 2, limit, packet, output).unwrap());
         };
-        let mut method = |output: &mut Vec<u8>| {
-            for packet in &received {
-                black_box(reader.repair(NO_CHECKSUM, limit, packet, output, Summing::Nothing));
-            }
+        let method = |packet: &[u8], output: &mut [u8]| {
+            black_box(reader.repair(NO_CHECKSUM, limit, packet, output, Summing::Nothing));
         };
-        let clear = |output: &mut Vec<u8>| output.fill(0);
-        let times = race(rounds, &mut vec![0; len], clear, &mut [&mut library, &mut weighing, &mut method]);
+        let times = race_repairs(rounds, &received, [&library, &weighing, &method]);
         let rate = |time: Duration| packets as f64 / time.as_secs_f64();
         println!(
             "{len:5}  {limit}  {:8.0}  {:17.0}  {:8.4}  {:8.0}  {:8.4}",
@@ -319,7 +328,7 @@ fn main() {
     println!();
     repairs(random, &tables, &reader, verifying);
     println!();
-    remainders(random, &reader.crc);
-    println!();
     unchecked(random, &tables, &reader);
+    println!();
+    remainders(random, &reader.crc);
 }
