@@ -4,8 +4,8 @@
  * A packet ends in a CRC and carries an Internet checksum (RFC 1071) over a
  * part of its bytes, or none. The library takes remainders and seals packets,
  * sums and stamps them, makes packets from a seed, lists all sets of at most so
- * many bit errors that explain a remainder, and repairs a packet where the
- * checksum leaves just one of them.
+ * many bit errors that explain a remainder, strikes those that the checksum
+ * contradicts, and repairs a packet where just one is left.
  *
  * Link with librangqoda.a (x86-64 Linux). Nothing is allocated, kept between
  * calls or shared: calls on different memory may run at the same time. A page
@@ -42,12 +42,12 @@
  *              zero behind an odd one, and carries added back in. There is no
  *              pseudo-header. The sum of nothing is 0.
  *   range      The bytes [start, end) of a packet. Accepted: start <= end and
- *              8 * end <= L - n, so that it has no bit of the CRC. A range
- *              passes where its sum is FFFFh: that is the second check. A range
- *              with start = end says that the packet carries no checksum. Then
+ *              8 * end <= L - n, so that it has no bit of the CRC. Where
+ *              start < end, it passes if its sum is FFFFh: that is the second
+ *              check. Where start = end, the packet carries no checksum. Then
  *              there is no second check, and a packet passes both where it
  *              passes the CRC. RANGQODA_NO_CHECKSUM is such a range, and is
- *              accepted with every length.
+ *              accepted with every accepted length.
  *
  *
  * Answers
@@ -135,10 +135,6 @@
  *
  *   (sets of at most N positions among L) / 2^n / 65535
  *
- * and where there is no checksum,
- *
- *   (sets of at most N positions among L) / 2^n
- *
  * With RANGQODA_CCITT and 64 bytes (L = 512) that is 1 in 33,000 at N = 2, 1
  * in 190 at N = 3 and 2 in 3 at N = 4. Counted: 18 of 400,000 at N = 2, 66 of
  * 20,000 at N = 3, 12 of 500 at N = 4. It grows about with L^N.
@@ -149,9 +145,12 @@
  * greater N repairs less, since several sets pass more often: a single flip in
  * 64 bytes is always repaired at N = 2, and once in nine times at N = 3.
  *
- * Without a checksum false repairs are hundreds of times as frequent: of 64
- * bytes with three flipped bits 1,464 of 100,000 at N = 1, and of 16 bytes with
- * four 3,272 of 20,000 at N = 2. Take N = 1 there.
+ * Without a checksum that estimate is not divided by 65535. Of noise of 16
+ * bytes 193 of 100,000 were repaired at N = 1, and 8,068 at N = 2; and 1 in 2^n
+ * is even said to be intact. A few flips more than N are repaired falsely
+ * hundreds of times as often as with a checksum: with four in 16 bytes 3,272 of
+ * 20,000 at N = 2, where 24 of 100,000 were. At N = 1, with three flips, they
+ * were 740 of 100,000 in 16 bytes, and 1,212 of 10,000 in 512. Take N = 1 there.
  *
  * So choose the least N that the channel needs, publish it beside the number
  * of repairs, and hold these for doubtful where many verdicts are
@@ -344,8 +343,8 @@ uint16_t rangqoda_sum(const uint8_t *bytes, size_t len);
  * start, end and field are places of bytes in the packet, counted from 0. A
  * packet that is to be sealed too is stamped first.
  *
- * Refused by 1, 2, 9, 10. Changes no byte but the two of the field. A range with
- * start = end has no field, and is refused by 10.
+ * Refused by 1, 2, 9, 10. Changes no byte but the two of the field. An accepted
+ * range with start = end has no field, and is refused by 10.
  */
 uint32_t rangqoda_stamp(uint64_t generator,
                         size_t start, size_t end, size_t field,
@@ -361,10 +360,10 @@ uint32_t rangqoda_stamp(uint64_t generator,
  * of that are the next byte, from the first one on. Any seed will do. The first
  * byte that seed 0 yields is 3Ch.
  *
- * Refused by 1, 2, 11, 9, 10; by 10 where start = end, since there is no field
- * then. Otherwise writes all bytes of packet, and into *state the state after
- * packet_len steps. A repair of the packet by the same CRC and range says
- * RANGQODA_INTACT.
+ * Refused by 1, 2, 11, 9, 10, and so by 10 for an accepted range with
+ * start = end, which has no field. Otherwise writes all bytes of packet, and
+ * into *state the state after packet_len steps. A repair of the packet by the
+ * same CRC and range says RANGQODA_INTACT.
  *
  * A footnote "CRC-16/XMODEM, 16 bytes, checksum over bytes 0 to 13 at byte 12,
  * seed 7" is the call

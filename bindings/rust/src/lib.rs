@@ -2,8 +2,8 @@
 //!
 //! A packet ends in a CRC and carries an Internet checksum (RFC 1071) over a part of its bytes, or none ([`NO_CHECKSUM`]). This
 //! crate takes [`remainder`]s and [`seal`]s packets, [`sum`]s and [`stamp`]s them, [`make`]s packets from a seed, lists all sets
-//! of at most so many bit errors that explain a remainder ([`page`], [`Tables::patterns`]), and [`repair`]s a packet where the
-//! checksum leaves just one of them.
+//! of at most so many bit errors that explain a remainder ([`page`], [`Tables::patterns`]), strikes those that the checksum
+//! contradicts, and [`repair`]s a packet where just one is left.
 //!
 //! It is a safe wrapper over the C functions of a library whose every function is proved to meet its contract. The
 //! wrapper itself is not proved; it judges nothing, and passes every number, length and slice on as it got it. Whatever is
@@ -21,8 +21,9 @@
 //! - A *pattern* is a set of at most four positions: bits that may have flipped. The *list* for a generator, L, a limit N
 //!   and a syndrome has all patterns below L with that syndrome and at most N positions. Small patterns stand before large
 //!   ones; those of one size go by their smallest positions, the lower first, then by the next smallest, and so on.
-//! - A *range* `start..end` of packet bytes *passes* where its sum is FFFFh. Accepted: start ≤ end and 8 end ≤ L - n. A range with
-//!   start = end says that the packet carries no checksum: there is no second check then, and every packet passes it.
+//! - A *range* `start..end` of packet bytes is accepted where start ≤ end and 8 end ≤ L - n. Where start < end, it *passes* if its
+//!   sum is FFFFh: that is the second check. Where start = end, the packet carries no checksum: there is no second check, and a
+//!   packet passes both where it passes the CRC.
 //!
 //! # Which CRC this is
 //!
@@ -48,7 +49,7 @@
 //! N bits flipped, that is the packet sent. If more did, it may be a wrong packet, and nothing in the verdict shows it.
 //!
 //! Of packets that are noise at most this part is repaired, on average: the sets of at most N positions among L, divided by
-//! 2^n and by 65,535 (by 2^n alone where there is no checksum). With [`CCITT`] and 64 bytes that is 1 in 33,000 at N = 2, 1 in 190 at N = 3 and 2 in 3 at N = 4. Packets
+//! 2^n and by 65,535. With [`CCITT`] and 64 bytes that is 1 in 33,000 at N = 2, 1 in 190 at N = 3 and 2 in 3 at N = 4. Packets
 //! with a few more flips than N are worse than noise, since they lie close to others that pass: of 64 bytes with four
 //! flipped bits 288 of 100,000 were falsely repaired at N = 2. And a greater N repairs less, since several sets pass more
 //! often. The example `trials` counts all this. So choose the least N that the channel needs, publish it beside the number
@@ -103,11 +104,13 @@ pub const CCITT: u64 = 0x11021;
 /// The entry of a first-position table where no power of x leaves the remainder.
 pub const NO_POSITION: u16 = 65535;
 
-/// The range of a packet that carries no checksum, accepted with every length: a repair then goes by the CRC alone. Any other
-/// range with start = end says the same. So take care that a range that was computed is not empty by mistake.
+/// The range of a packet that carries no checksum, accepted with every accepted length: a repair then goes by the CRC alone. Any
+/// other accepted range with start = end says the same. So take care that a range that was computed is not empty by mistake.
 ///
-/// Without a checksum false repairs are hundreds of times as frequent: with [`CCITT`], of 64 bytes with three flipped bits 1,464
-/// of 100,000 at N = 1, and of 16 bytes with four 3,272 of 20,000 at N = 2. Take N = 1 there.
+/// Without a checksum the estimate for noise is not divided by 65,535. With [`CCITT`] and 16 bytes 193 of 100,000 packets of noise
+/// were repaired at N = 1, and 8,068 at N = 2; and 1 in 2^n is even said to be intact. A few flips more than N are repaired falsely
+/// hundreds of times as often as with a checksum: with four in 16 bytes 3,272 of 20,000 at N = 2, where 24 of 100,000 were. At N = 1,
+/// with three flips, they were 740 of 100,000 in 16 bytes, and 1,212 of 10,000 in 512. Take N = 1 there.
 pub const NO_CHECKSUM: Range<usize> = 0..0;
 
 /// The most positions of a pattern.
@@ -441,7 +444,8 @@ pub fn sum(bytes: &[u8]) -> u16 {
 }
 
 /// Stamps a packet, so that the range passes: the two bytes at `field`, an index into the packet, become what the sum of the
-/// range, taken with these two as zero, lacks to FFFFh. Refused by 1, 2, 9, 10; an empty range has no field, and is refused by 10.
+/// range, taken with these two as zero, lacks to FFFFh. Refused by 1, 2, 9, 10, and so by 10 for an accepted range with start = end,
+/// which has no field.
 ///
 /// ```
 /// use rangqoda::{stamp, sum, Refusal, CCITT};
@@ -458,7 +462,8 @@ pub fn stamp(generator: u64, range: Range<usize>, field: usize, packet: &mut [u8
 }
 
 /// Makes a packet from a seed: fills it, stamps the range at `field`, and seals it. The same numbers make the same packet,
-/// whatever it held before. Refused by 1, 2, 11, 9, 10, in this order; by 10 for an empty range, which has no field.
+/// whatever it held before. Refused by 1, 2, 11, 9, 10, in this order, and so by 10 for an accepted range with start = end, which
+/// has no field.
 ///
 /// The bytes come from a 32-bit state, the seed to begin with. Each step goes from a state s to (1664525 s + 1013904223) mod 2^32,
 /// and the top eight bits of that are the next byte, from the first one on. Returned is the state after as many steps as the
