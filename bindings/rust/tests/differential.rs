@@ -971,9 +971,16 @@ fn repair_of_any_bytes() {
 fn no_checksum_at_every_place() {
     let mut random = Random::new(25);
     let mut listed = [0; 3];
-    for (generator, len) in
-        [(9, 2), (11, 3), (53, 2), (53, 4), (0x107, 3), (0x107, 5), (0x18005, 4), (rangqoda::CCITT, 5)]
-    {
+    for (generator, len, most) in [
+        (9, 2, 4),
+        (11, 3, 4),
+        (53, 2, 4),
+        (53, 4, 2),
+        (0x107, 3, 4),
+        (0x107, 5, 2),
+        (0x18005, 3, 4),
+        (rangqoda::CCITT, 4, 2),
+    ] {
         let n = reference::degree(generator);
         let crc = random.values(generator);
         let tables = reference::tables_of(generator);
@@ -984,13 +991,11 @@ fn no_checksum_at_every_place() {
         let pairs = (0..bits).flat_map(|p| (0..=p).map(move |q| if p == q { vec![p] } else { vec![q, p] }));
         for pattern in [vec![]].into_iter().chain(pairs) {
             let packet = reference::flipped(&sent, &pattern);
-            let limit = random.within(1, 4);
+            let limit = random.within(1, most);
             let lent = RepairLent { output: random.bytes(len), verdict: random.bytes(VERDICT_BYTES) };
-            let found = |place: usize| {
-                let call = RepairCall { crc, start: place, end: place, limit, step, first, packet: &packet };
-                (compare_repair(&call, &lent), common::repair(&call, &lent))
-            };
-            let (answer, told) = found(0);
+            let call = RepairCall { crc, start: 0, end: 0, limit, step, first, packet: &packet };
+            let answer = compare_repair(&call, &lent);
+            let told = common::repair(&call, &lent);
             let syndrome = reference::remainder(crc, &packet).unwrap();
             let list = reference::list(generator, 8 * len, limit, syndrome);
             let by_list = match (syndrome, list.len()) {
@@ -1008,11 +1013,9 @@ fn no_checksum_at_every_place() {
                 }
             }
             for place in 1..len + 2 {
-                if 8 * place <= 8 * len - n {
-                    assert_eq!(found(place), (answer.clone(), told.clone()), "{crc:?} {place}");
-                } else {
-                    assert_eq!(found(place), (Err(9), (9, lent.clone())), "{crc:?} {place}");
-                }
+                let found = common::repair(&RepairCall { start: place, end: place, ..call.clone() }, &lent);
+                let expected = if 8 * place <= 8 * len - n { told.clone() } else { (9, lent.clone()) };
+                assert_eq!(found, expected, "{crc:?} {place}");
             }
         }
         for place in 0..len + 2 {
