@@ -125,7 +125,7 @@ class Group:
         kind, passing = verdict(generator, a, e, limit, packet, values)
         kinds[kind] = kinds.get(kind, 0) + 1
         if a == e and kind != "intact":
-            listed.add(min(len(passing), 2))
+            counts.add(min(len(passing), 2))
         copy = flip(packet, passing[0]) if kind == "repaired" else before
         published = {"intact": packet, "repaired": copy}.get(kind, b"")
         shown = {"repaired": "".join(f"{p} " for p in (passing or [()])[0]), "several": f"{len(passing)} 0 {0 if a == e else 65535} "}
@@ -164,7 +164,7 @@ def last_end(generator, length):
 
 groups = []
 kinds = {}
-listed = set()  # how many patterns the lists have where there is no checksum: none, one, more
+counts = set()  # how many patterns lists have where there is no checksum: none, one, more
 
 
 def worked_by_hand():
@@ -278,7 +278,7 @@ def with_values():
 def without_a_checksum():
     """Packets that carry none, so sealed only: every place for the range, those that reach into the CRC too; and with each bit
     flipped."""
-    listed.clear()
+    counts.clear()
     for generator, length in ((FIVE, 3), (FIVE, 6), (CCITT, 4), (CCITT, 6), (THREE, 3), (EIGHT, 4)):
         group = Group(generator)
         bits, end = 8 * length, last_end(generator, length)
@@ -296,7 +296,7 @@ def without_a_checksum():
         packet = sealed(random.randbytes(length), CCITT)
         ccitt.add(length - 2, length - 2, limit, flip(packet, random.sample(range(8 * length), limit - 1)), 40, 3)
         ccitt.add(length - 1, length - 1, limit, packet)
-    assert listed == {0, 1, 2}, listed
+    assert counts == {0, 1, 2}, counts
 
 
 def refused_in_order():
