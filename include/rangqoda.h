@@ -147,10 +147,10 @@
  *
  * Without a checksum that estimate is not divided by 65535. Of noise of 16
  * bytes 193 of 100,000 were repaired at N = 1, and 8,068 at N = 2; and 1 in 2^n
- * is even said to be intact. A few flips more than N are repaired falsely
- * hundreds of times as often as with a checksum: with four in 16 bytes 3,272 of
- * 20,000 at N = 2, where 24 of 100,000 were. At N = 1, with three flips, they
- * were 740 of 100,000 in 16 bytes, and 1,212 of 10,000 in 512. Take N = 1 there.
+ * is even said to be intact. With four flips, at N = 2, 3,272 of 20,000 were
+ * falsely repaired in 16 bytes (24 of 100,000 with a checksum) and 940 of 20,000
+ * in 64 (288 of 100,000); with three, at N = 1, 740 of 100,000 in 16 bytes and
+ * 1,212 of 10,000 in 512. Take N = 1 there.
  *
  * So choose the least N that the channel needs, publish it beside the number
  * of repairs, and hold these for doubtful where many verdicts are

@@ -108,9 +108,9 @@ pub const NO_POSITION: u16 = 65535;
 /// other accepted range with start = end says the same. So take care that a range that was computed is not empty by mistake.
 ///
 /// Without a checksum the estimate for noise is not divided by 65,535. With [`CCITT`] and 16 bytes 193 of 100,000 packets of noise
-/// were repaired at N = 1, and 8,068 at N = 2; and 1 in 2^n is even said to be intact. A few flips more than N are repaired falsely
-/// hundreds of times as often as with a checksum: with four in 16 bytes 3,272 of 20,000 at N = 2, where 24 of 100,000 were. At N = 1,
-/// with three flips, they were 740 of 100,000 in 16 bytes, and 1,212 of 10,000 in 512. Take N = 1 there.
+/// were repaired at N = 1, and 8,068 at N = 2; and 1 in 2^n is even said to be intact. With four flips, at N = 2, 3,272 of 20,000 were
+/// falsely repaired in 16 bytes (24 of 100,000 with a checksum) and 940 of 20,000 in 64 (288 of 100,000); with three, at N = 1, 740 of
+/// 100,000 in 16 bytes and 1,212 of 10,000 in 512. Take N = 1 there.
 pub const NO_CHECKSUM: Range<usize> = 0..0;
 
 /// The most positions of a pattern.

@@ -178,7 +178,7 @@ fn same(verdict: Verdict, found: Found) -> bool {
     }
 }
 
-/// What is repaired: how many packets, of which length, at which limit; and in how many rounds.
+/// What is repaired: bytes of a packet, limit, number of packets; and in how many rounds.
 const REPAIRS: [(usize, usize, usize, usize); 6] =
     [(64, 1, 200, 7), (64, 2, 200, 7), (64, 3, 100, 7), (512, 1, 200, 7), (512, 2, 100, 7), (512, 3, 5, 5)];
 
