@@ -1,5 +1,6 @@
 pub mod PacketLaws
 pub mod CancelLaws
+pub mod DivideLaws
 pub mod FlipLaws
 pub mod DifferenceLaws
 pub mod ReadLaws
