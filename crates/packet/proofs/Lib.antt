@@ -4,5 +4,6 @@ pub mod DivideLaws
 pub mod FlipLaws
 pub mod DifferenceLaws
 pub mod ReadLaws
+pub mod CcittLaws
 pub mod RemainderLaws
 pub mod SealLaws

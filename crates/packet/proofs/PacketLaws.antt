@@ -39,6 +39,9 @@ pub polynomial-take : (s : List ℕ) (i : ℕ) → i < length s → polynomial (
 unfolding polynomial
 polynomial-take s i h = after-take 0 s i h
 
+pub polynomial-two : (s : List ℕ) → 2 ≤ length s → polynomial (take 2 s) ≡ getD s 0 0 * 256 + getD s 1 0
+polynomial-two s h = omega (arith, polynomial-nil, polynomial-take s 0 (omega arith), polynomial-take s 1 (omega arith))
+
 pub length-bytes : (k v : ℕ) → length (bytes k v) ≡ k
 unfolding bytes
 length-bytes zero v = refl

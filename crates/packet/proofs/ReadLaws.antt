@@ -2,12 +2,13 @@
 use mathlib.Core.Path.{_≡_, sym, ap, ap₂, _∙_}
 use mathlib.Core.Bool.{false}
 use mathlib.Core.List.{List}
-use Prim.Native.Nat.{ℕ, _+_, _-_, _*_, _^_}
+use Prim.Native.Nat.{ℕ, _+_, _-_, _*_, _^_, _<_}
 use native.Mathlib.Omega.{arith}
-use native.Mathlib.Nat.{zero-mul, mul-assoc}
-use lib.Bits.{bitXor, xor-zero-r, xor-shifted}
-use lib.ListN.{length}
-use lib.Pow.{pow-add}
+use native.Mathlib.Nat.{add-zero, zero-mul, mul-assoc}
+use lib.Bits.{bitXor, xor-block, xor-zero-r, xor-shifted}
+use lib.ListN.{length, take, drop, length-drop, take-append-drop}
+use lib.Pow.{pow-add, pow-pos}
+use lib.Seq.{getD-drop}
 use Rattle.base.proofs.XorLaws.{xor-ac}
 use Rattle.poly.specs.Polynomial.{degree, rem}
 use Rattle.poly.specs.Generators.{unfit}
@@ -17,7 +18,7 @@ use Rattle.packet.specs.Packet.{Bytes, bits, polynomial, polynomialAfter
 use Rattle.packet.specs.Reading.{Readable}
 use Rattle.packet.specs.declared.Crc.{Crc}
 use Rattle.packet.proofs.PacketLaws.{fit-length, fit-values}
-use Rattle.packet.proofs.FlipLaws.{after-is, byte-power, polynomial-below}
+use Rattle.packet.proofs.FlipLaws.{after-is, polynomial-append, byte-power, polynomial-below}
 
 -- by the places of both values: the initial value stands above the L - n bits behind it
 pub read-at : (c : Crc) (s : List ℕ) (k : ℕ) → bits s ≡ c .generator .degree + k
@@ -72,3 +73,27 @@ register-reads c s v r b e =
     ∙ rem-xor n g low high (bitXor (polynomial s) (c .init * 2 ^ k)) (c .xorout)
     ∙ ap (λ (x : ℕ). bitXor x (rem n g (c .xorout))) (rem-xor n g low high (polynomial s) (c .init * 2 ^ k))
     ∙ (simp xor-ac))
+
+-- where the degree is that of k bytes, the first k bytes with the initial value added are a register for what is behind them
+pub first-bytes-read : (c : Crc) (s : List ℕ) (k : ℕ) → c .generator .degree ≡ 8 * k → Readable c s → Bytes s
+    → bitXor (rem (c .generator .degree) (c .generator .coefficients) (polynomialAfter (bitXor (polynomial (take k s)) (c .init)) (drop k s))) (c .xorout) ≡ remainder c s
+unfolding remainder
+first-bytes-read c s k e r b =
+    let n : ℕ = c .generator .degree in
+    let g : ℕ = c .generator .coefficients in
+    let first : ℕ = polynomial (take k s) in
+    let rest : List ℕ = drop k s in
+    let m : ℕ = bits rest in
+    let places : bits s ≡ n + m = omega (arith, r .long, length-drop k s) in
+    let small : polynomial rest < 2 ^ m = polynomial-below rest (λ i. rw (getD-drop k s i 0) (b (k + i))) in
+    let joined : polynomial s ≡ first * 2 ^ m + polynomial rest =
+    ap polynomial (sym (take-append-drop k s)) ∙ polynomial-append (take k s) rest ∙ ap (λ (x : ℕ). first * x + polynomial rest) (byte-power (length rest)) in
+    let read : bitXor (polynomial s) (c .init * 2 ^ m) ≡ polynomialAfter (bitXor first (c .init)) rest =
+    ap₂ bitXor joined (sym (add-zero (c .init * 2 ^ m)))
+    ∙ xor-block m first (c .init) (polynomial rest) 0 small (pow-pos m)
+    ∙ ap₂ (λ (x y : ℕ). bitXor first (c .init) * x + y) (sym (byte-power (length rest))) (xor-zero-r (polynomial rest))
+    ∙ sym (after-is (bitXor first (c .init)) rest) in
+    ap₂ bitXor (ap (rem n g) (sym read)) (sym (rem-small n g (c .xorout) (r .xorout)))
+    ∙ sym
+    (ap (rem n g) (read-at c s m places)
+    ∙ rem-xor n g (r .fit .divisor .low) (r .fit .divisor .high) (bitXor (polynomial s) (c .init * 2 ^ m)) (c .xorout))

@@ -3,13 +3,15 @@ use base::Judgement;
 use base::Refusal;
 use poly::Generator;
 ghost use mathlib.Core.Path.{_≡_};
-ghost use Prim.Native.Nat.{ℕ, suc, _+_, _*_, _^_, _<_};
-ghost use lib.ListN.{length};
+ghost use Prim.Native.Nat.{ℕ, suc, _+_, _*_, _^_, _≤_, _<_};
+ghost use lib.ListN.{length, take};
 ghost use lib.Bits.{bitXor};
 ghost use Rattle.base.specs.Lists.{All};
 ghost use Rattle.base.specs.Judged.{judgement, judged};
 ghost use Rattle.poly.specs.Fit.{Fit};
+ghost use Rattle.poly.specs.Generators.{ccitt};
 ghost use Rattle.poly.specs.Polynomial.{rem};
+ghost use Rattle.ccitt.specs.ByteTable.{byteTable};
 ghost use Rattle.packet.specs.Packet.{
   Bytes,
   polynomialAfter,
@@ -156,12 +158,48 @@ fn divide(g: Generator, register: u64, packet: &[u8]) -> u64
     r
 }
 
+// The same by ccitt, with one look-up a byte.
+fn divide_by_table(table: &[u16], register: u16, packet: &[u8]) -> u16
+    requires { ⌜ now table ≡ byteTable ⌝ }
+    ensures { λ r. ⌜ r ≡ rem (ccitt .degree) (ccitt .coefficients) (polynomialAfter register (now (packet .entry))) ⌝ }
+{
+    let mut r = register;
+    let mut i = 0;
+    while i < packet.len() {
+        r = ccitt::append(table, r, packet[i]);
+        i += 1;
+    }
+    r
+}
+
+// The first two bytes of a packet as a number.
+fn first_two(packet: &[u8]) -> u16
+    requires { ⌜ 2 ≤ length (now packet) ⌝ }
+    ensures { λ r. ⌜ r ≡ polynomial (take 2 (now (packet .entry))) ⌝ }
+{
+    packet[0] as u16 * 256 + packet[1] as u16
+}
+
+// The remainder of a packet by ccitt: the register starts with the first 16 bits, and the initial value added to them.
+fn remainder_by_table(crc: Crc, packet: &[u8]) -> u64
+    requires { ⌜ (crc .generator ≡ ccitt) × Readable crc (now packet) ⌝ }
+    ensures { λ r. ⌜ r ≡ remainder crc (now (packet .entry)) ⌝ }
+{
+    let first = first_two(packet);
+    let register = first ^ crc.init as u16;
+    let table = ccitt::byte_table();
+    divide_by_table(&table, register, &packet[2..]) as u64 ^ crc.xorout
+}
+
 // The remainder of a packet: the register starts so that the initial value is added at the packet's first n bits.
 pub fn remainder_of(crc: Crc, packet: &[u8]) -> u64
     requires { ⌜ Readable crc (now packet) ⌝ }
     ensures { λ r. ⌜ r ≡ remainder crc (now (packet .entry)) ⌝ }
 {
     let g = crc.generator;
+    if g.coefficients == Generator::CCITT.coefficients {
+        return remainder_by_table(crc, packet);
+    }
     divide(g, register_of(g, crc.init), packet) ^ crc.xorout
 }
 

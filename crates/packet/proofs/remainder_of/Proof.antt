@@ -1,26 +1,29 @@
--- `remainder_of` divides with a register that stands for the initial value, and adds the final value.
+-- `remainder_of` divides by table where the generator is ccitt. Otherwise it divides with a register that stands for the
+-- initial value, and adds the final value.
 use mathlib.Core.Path.{ap, _∙_}
 use Prim.Native.Nat.{ℕ}
 use native.Mathlib.Omega.{arith}
 use lib.Bits.{bitXor}
+use borrow.Author.Needs.{needs}
+use Rattle.ccitt.proofs.ByteLaws.{ccitt-by-number}
 use Rattle.packet.proofs.ReadLaws.{register-reads}
 use Rattle.packet.proofs.remainder_of.Statement.{statement}
 use Rattle.packet.proofs.remainder_of.Tie as tie
 
-register-of-requires : tie.Need-register-of-requires
-register-of-requires c κs = let p = c .before .before .pre in (p .fit, p .init)
+remainder-by-table-requires : tie.Need-remainder-by-table-requires
+remainder-by-table-requires c κs =
+    let s = c .before .before .before .before .before in
+    (ccitt-by-number (s .args .crc .generator) (s .pre .fit) (omega (arith, c .if1 .taken)), s .pre)
 
-divide-requires : tie.Need-divide-requires
-divide-requires c κs = (c .before .before .before .pre .fit, c .register-of .ensures .0)
-
-returns : tie.Need-returns
-returns c =
+returns-2 : tie.Need-returns-2
+returns-2 c =
     let register = c .before .before in
-    let known = register .before .before in
+    let known = register .before .before .before .before .before in
     let s = known .before in
     ap (λ (x : ℕ). bitXor x (s .args .crc .xorout)) (c .before .divide .ensures)
     ∙ register-reads (s .args .crc) (s .args .packet .now) (register .register-of .result) (s .pre)
     (λ i. omega (arith, known .shared-slice-known .given i)) (register .register-of .ensures .1)
 
 pub remainder-of-spec : {M : Type 1} → statement M
-remainder-of-spec = tie.close (tie.spec register-of-requires divide-requires returns)
+remainder-of-spec =
+    tie.close (tie.spec remainder-by-table-requires (λ c. search needs) (λ c κs. search needs) (λ c κs. search needs) returns-2)
