@@ -155,12 +155,20 @@ def unfit():
                 seeded(generator, length, initial, final)
 
 
+def ccitt():
+    """Ccitt, which is divided by table, with initial and final values."""
+    for length in range(3, 513, 4):
+        initial, final = (length * 40503 + 12345) % 2**16, (length * 30011 + 54321) % 2**16
+        seeded(CCITT, length, initial, final)
+
+
 used = catalogue()
 written_out()
 lengths()
 generators()
 values()
 unfit()
+ccitt()
 text = "".join(f"{line}\n" for line in [str(len(cases)), *(given for given, _ in cases)])
 assert len(text) < 131072, len(text)  # the room that the program has for it
 TARGET.joinpath("stdin").write_text(text)

@@ -157,6 +157,45 @@ static uint64_t divided(uint64_t generator, unsigned n, uint64_t initial, uint64
     return rest;
 }
 
+/* Remainder and seal of a packet by ccitt, against division bit by bit: 1 where one of them is wrong. */
+static unsigned wrong_by_ccitt(uint64_t initial, uint64_t final, const uint8_t *packet, unsigned len)
+{
+    uint8_t sealed[512];
+    uint64_t left = 77, right = divided(RANGQODA_CCITT, 16, initial, final, packet, len);
+
+    if (rangqoda_remainder(RANGQODA_CCITT, initial, final, packet, len, &left) != 0 || left != right)
+        return 1;
+    memcpy(sealed, packet, len);
+    if (rangqoda_seal(RANGQODA_CCITT, initial, final, sealed, len) != 0 || memcmp(sealed, packet, len - 2) != 0)
+        return 1;
+    return sealed[len - 2] != (uint8_t)(packet[len - 2] ^ right >> 8) || sealed[len - 1] != (uint8_t)(packet[len - 1] ^ right);
+}
+
+/* Ccitt is divided by table: every two bytes that a packet can begin with, and every length, with the values 0 and others. */
+static void by_table(void)
+{
+    static uint8_t packet[512];
+    uint64_t state = 1;
+    unsigned wrong = 0;
+
+    for (unsigned k = 0; k < 512; k++)
+        packet[k] = (uint8_t)((state = state * 0x5851F42D4C957F2Du + 1) >> 56);
+    for (unsigned beginning = 0; beginning < 65536; beginning++) {
+        packet[0] = (uint8_t)(beginning >> 8);
+        packet[1] = (uint8_t)beginning;
+        wrong += wrong_by_ccitt(0, 0, packet, 3 + beginning % 4);
+        state = state * 0x5851F42D4C957F2Du + 1;
+        wrong += wrong_by_ccitt(state >> 48, state >> 32 & 0xFFFF, packet, 3 + beginning % 4);
+    }
+    EXPECT(wrong == 0);
+    for (unsigned len = 3; len <= 512; len++) {
+        wrong += wrong_by_ccitt(0, 0, packet, len);
+        state = state * 0x5851F42D4C957F2Du + 1;
+        wrong += wrong_by_ccitt(state >> 48, state >> 32 & 0xFFFF, packet, len);
+    }
+    EXPECT(wrong == 0);
+}
+
 /* Packets of less than 2n bits: every value of five in every packet of one byte, and some of degree 16 in three. */
 static void overlapping(void)
 {
@@ -499,6 +538,7 @@ int main(void)
 {
     remainder_and_seal();
     named();
+    by_table();
     overlapping();
     unfit_values();
     values();

@@ -377,6 +377,15 @@ fn every_initial_and_final_value_of_small_degrees() {
     }
 }
 
+/// Remainder and seal of an accepted packet, against long division.
+fn compare_packet(crc: Crc, packet: &[u8]) {
+    let expected = reference::remainder(crc, packet).unwrap();
+    assert_eq!(common::remainder(crc, packet), (0, expected), "{crc:?} {packet:02X?}");
+    let mut sealed = packet.to_vec();
+    reference::seal(crc, &mut sealed).unwrap();
+    assert_eq!(common::seal(crc, packet), (0, sealed), "{crc:?} {packet:02X?}");
+}
+
 #[test]
 fn values_in_packets_of_less_than_2n_bits() {
     let mut random = Random::new(20);
@@ -388,11 +397,40 @@ fn values_in_packets_of_less_than_2n_bits() {
         let crc = random.values(generator);
         let len = random.within(n / 8 + 1, (2 * n - 1) / 8);
         let packet = random.packet(len);
-        let remainder = reference::remainder(crc, &packet).unwrap();
-        assert_eq!(common::remainder(crc, &packet), (0, remainder), "{crc:?} {packet:02X?}");
-        let mut sealed = packet.clone();
-        reference::seal(crc, &mut sealed).unwrap();
-        assert_eq!(common::seal(crc, &packet), (0, sealed), "{crc:?} {packet:02X?}");
+        compare_packet(crc, &packet);
+    }
+}
+
+/// Ccitt is divided by table, a byte at a time: every two bytes that a packet can begin with, and every length, with the
+/// values 0 and with others.
+#[test]
+fn ccitt_for_every_beginning_and_every_length() {
+    let mut random = Random::new(30);
+    for beginning in 0..=0xFFFFu16 {
+        let len = random.within(3, 6);
+        let mut packet = random.packet(len);
+        packet[..2].copy_from_slice(&beginning.to_be_bytes());
+        compare_packet(Crc::plain(rangqoda::CCITT), &packet);
+        compare_packet(random.values(rangqoda::CCITT), &packet);
+    }
+    for len in 3..=512 {
+        for _ in 0..8 {
+            let packet = random.packet(len);
+            compare_packet(Crc::plain(rangqoda::CCITT), &packet);
+            compare_packet(random.values(rangqoda::CCITT), &packet);
+        }
+    }
+}
+
+/// No other generator is divided by ccitt's table: those that differ in one bit, and the reflected one.
+#[test]
+fn generators_close_to_ccitt() {
+    let mut random = Random::new(31);
+    for generator in (1..16).map(|i| rangqoda::CCITT ^ 1 << i).chain([0x10811]) {
+        for len in [3, 4, 64, 511, 512] {
+            let packet = random.packet(len);
+            compare_packet(random.values(generator), &packet);
+        }
     }
 }
 
