@@ -226,6 +226,7 @@ impl fmt::Display for Refusal {
 impl Error for Refusal {}
 
 /// What a C function's answer says: 0 is accepted.
+#[inline]
 fn judged(number: u32) -> Result<(), Refusal> {
     match number {
         0 => Ok(()),
@@ -409,6 +410,7 @@ impl Verdict {
 /// assert_eq!(remainder(Crc { generator: FIVE, init: 31, xorout: 31 }, &[0x00]), Ok(6));
 /// assert_eq!(remainder(Crc { generator: FIVE, init: 32, xorout: 0 }, &[0x00]), Err(Refusal::Values));
 /// ```
+#[inline]
 pub fn remainder(crc: Crc, packet: &[u8]) -> Result<u64, Refusal> {
     let mut remainder = 0;
     // SAFETY: a slice's pointer is good for its length, and the lent parts are borrowed apart from each other.

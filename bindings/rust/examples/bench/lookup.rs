@@ -154,6 +154,14 @@ impl TableCrc {
         TableCrc(table)
     }
 
+    /// As it is usually written: the CRC of what stands before the last two bytes, and these added to it.
+    pub fn usual(&self, packet: &[u8]) -> u16 {
+        let (data, field) = packet.split_at(packet.len() - 2);
+        let crc = data.iter().fold(0u16, |crc, &byte| crc << 8 ^ self.0[usize::from((crc >> 8) as u8 ^ byte)]);
+        crc ^ u16::from_be_bytes([field[0], field[1]])
+    }
+
+    /// With the whole packet shifted through the register: a step waits for one operation less.
     pub fn remainder(&self, packet: &[u8]) -> u16 {
         packet.iter().fold(0, |rest, &byte| (rest << 8 | u16::from(byte)) ^ self.0[usize::from(rest >> 8)])
     }

@@ -279,26 +279,39 @@ fn unchecked(random: &mut Random, tables: &Tables, reader: &Reader) {
 }
 
 fn remainders(random: &mut Random, crc: &TableCrc) {
-    println!("Remainder of a packet (CCITT). Nanoseconds a packet.");
-    println!("bytes   library  table-driven CRC  ratio");
-    for len in [64, 512] {
+    println!("Remainder of a packet (CCITT), beside a table-driven CRC in the usual loop and in the shifting one. Nanoseconds.");
+    println!("bytes   library     usual  ratio  shifting  ratio");
+    for len in [16, 64, 512] {
         let packets = damaged(random, 1000, len, 1);
         for packet in &packets {
             assert_eq!(remainder(CRC, packet), Ok(crc.remainder(packet).into()));
+            assert_eq!(crc.usual(packet), crc.remainder(packet));
         }
         let mut library = |_: &mut ()| {
             for packet in &packets {
                 black_box(remainder(CRC, black_box(packet)).unwrap());
             }
         };
-        let mut plain = |_: &mut ()| {
+        let mut usual = |_: &mut ()| {
+            for packet in &packets {
+                black_box(crc.usual(black_box(packet)));
+            }
+        };
+        let mut shifting = |_: &mut ()| {
             for packet in &packets {
                 black_box(crc.remainder(black_box(packet)));
             }
         };
         // microseconds for a thousand packets are nanoseconds for one
-        let times = race(30, &mut (), |_| (), &mut [&mut library, &mut plain]);
-        println!("{len:5}  {:8.0}  {:16.0}  {:5.2}", micros(times[0]), micros(times[1]), ratio(times[1], times[0]),);
+        let times = race(30, &mut (), |_| (), &mut [&mut library, &mut usual, &mut shifting]);
+        println!(
+            "{len:5}  {:8.0}  {:8.0}  {:5.2}  {:8.0}  {:5.2}",
+            micros(times[0]),
+            micros(times[1]),
+            ratio(times[1], times[0]),
+            micros(times[2]),
+            ratio(times[2], times[0]),
+        );
     }
 }
 
