@@ -156,7 +156,7 @@ def unfit():
 
 
 def ccitt():
-    """Ccitt, which is divided by table, with initial and final values."""
+    """Division by ccitt, which goes by a table, with initial and final values."""
     for length in range(3, 513, 4):
         initial, final = (length * 40503 + 12345) % 2**16, (length * 30011 + 54321) % 2**16
         seeded(CCITT, length, initial, final)

@@ -171,27 +171,23 @@ static unsigned wrong_by_ccitt(uint64_t initial, uint64_t final, const uint8_t *
     return sealed[len - 2] != (uint8_t)(packet[len - 2] ^ right >> 8) || sealed[len - 1] != (uint8_t)(packet[len - 1] ^ right);
 }
 
-/* Ccitt is divided by table: every two bytes that a packet can begin with, and every length, with the values 0 and others. */
-static void by_table(void)
+/* Division by ccitt goes by a table: every two bytes that a packet can begin with, and every length, with values 0 and others. */
+static void by_ccitt(void)
 {
     static uint8_t packet[512];
     uint64_t state = 1;
     unsigned wrong = 0;
 
-    for (unsigned k = 0; k < 512; k++)
-        packet[k] = (uint8_t)((state = state * 0x5851F42D4C957F2Du + 1) >> 56);
-    for (unsigned beginning = 0; beginning < 65536; beginning++) {
-        packet[0] = (uint8_t)(beginning >> 8);
-        packet[1] = (uint8_t)beginning;
-        wrong += wrong_by_ccitt(0, 0, packet, 3 + beginning % 4);
-        state = state * 0x5851F42D4C957F2Du + 1;
-        wrong += wrong_by_ccitt(state >> 48, state >> 32 & 0xFFFF, packet, 3 + beginning % 4);
-    }
-    EXPECT(wrong == 0);
-    for (unsigned len = 3; len <= 512; len++) {
+    for (unsigned k = 0; k < 65536 + 510; k++) {
+        unsigned len = k < 65536 ? 3 + k % 4 : k - 65536 + 3;
+        for (unsigned i = 0; i < len; i++)
+            packet[i] = (uint8_t)((state = state * 0x5851F42D4C957F2Du + 1) >> 56);
+        if (k < 65536) {
+            packet[0] = (uint8_t)(k >> 8);
+            packet[1] = (uint8_t)k;
+        }
         wrong += wrong_by_ccitt(0, 0, packet, len);
-        state = state * 0x5851F42D4C957F2Du + 1;
-        wrong += wrong_by_ccitt(state >> 48, state >> 32 & 0xFFFF, packet, len);
+        wrong += wrong_by_ccitt((state >> 48) | 1, state >> 32 & 0xFFFF, packet, len);
     }
     EXPECT(wrong == 0);
 }
@@ -538,7 +534,7 @@ int main(void)
 {
     remainder_and_seal();
     named();
-    by_table();
+    by_ccitt();
     overlapping();
     unfit_values();
     values();

@@ -410,6 +410,7 @@ impl Verdict {
 /// assert_eq!(remainder(Crc { generator: FIVE, init: 31, xorout: 31 }, &[0x00]), Ok(6));
 /// assert_eq!(remainder(Crc { generator: FIVE, init: 32, xorout: 0 }, &[0x00]), Err(Refusal::Values));
 /// ```
+// inlined with `judged`: a short packet's remainder takes little longer than a call
 #[inline]
 pub fn remainder(crc: Crc, packet: &[u8]) -> Result<u64, Refusal> {
     let mut remainder = 0;

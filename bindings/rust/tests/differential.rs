@@ -401,28 +401,31 @@ fn values_in_packets_of_less_than_2n_bits() {
     }
 }
 
-/// Ccitt is divided by table, a byte at a time: every two bytes that a packet can begin with, and every length, with the
+/// Division by ccitt goes by a table, a byte at a time: every two bytes that a packet can begin with, and every length, with the
 /// values 0 and with others.
 #[test]
 fn ccitt_for_every_beginning_and_every_length() {
     let mut random = Random::new(30);
+    let compare = |random: &mut Random, packet: &[u8]| {
+        compare_packet(Crc::plain(rangqoda::CCITT), packet);
+        let init = 1 + random.below(0xFFFF);
+        compare_packet(Crc { generator: rangqoda::CCITT, init, xorout: random.below(0x10000) }, packet);
+    };
     for beginning in 0..=0xFFFFu16 {
         let len = random.within(3, 6);
         let mut packet = random.packet(len);
         packet[..2].copy_from_slice(&beginning.to_be_bytes());
-        compare_packet(Crc::plain(rangqoda::CCITT), &packet);
-        compare_packet(random.values(rangqoda::CCITT), &packet);
+        compare(&mut random, &packet);
     }
     for len in 3..=512 {
         for _ in 0..8 {
             let packet = random.packet(len);
-            compare_packet(Crc::plain(rangqoda::CCITT), &packet);
-            compare_packet(random.values(rangqoda::CCITT), &packet);
+            compare(&mut random, &packet);
         }
     }
 }
 
-/// No other generator is divided by ccitt's table: those that differ in one bit, and the reflected one.
+/// No other generator goes by ccitt's table: those that differ in one bit, and the reflected one.
 #[test]
 fn generators_close_to_ccitt() {
     let mut random = Random::new(31);

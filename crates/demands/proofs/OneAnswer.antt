@@ -1,12 +1,9 @@
 -- The contracts of remainder and seal settle every answer: two that meet a contract on one input are one. So however a remainder is
 -- taken, by table or bit by bit, the calls answer and leave the same.
 use mathlib.Core.Path.{_≡_, refl, sym, ap, _∙_}
-use mathlib.Core.List.{List, [], _∷_}
-use Prim.Native.Nat.{ℕ, _-_}
-use lib.ListN.{getD}
-use Rattle.base.specs.Refusals.{number}
-use Rattle.base.specs.declared.Refusal.{Refusal}
-use Rattle.base.specs.declared.Refusal.the-variants.{Generator, Length, Limit, Syndrome, TableLength, TableEntry, Mark, Output, Range, Field, Values}
+use mathlib.Core.List.{List}
+use Prim.Native.Nat.{ℕ}
+use Rattle.base.proofs.RefusalLaws.{number-tells}
 use Rattle.base.proofs.JudgeLaws.{refused-number}
 use Rattle.packet.specs.Calls.{remainderAnswer, remainderCall, sealAnswer, sealCall, sealPacket}
 use Rattle.packet.specs.declared.Crc.{Crc}
@@ -14,27 +11,6 @@ use Rattle.packet.specs.declared.RemainderAnswer.{RemainderAnswer}
 use Rattle.packet.specs.declared.RemainderAnswer.the-variants as RemainderAnswer-cases
 use Rattle.packet.specs.declared.SealAnswer.{SealAnswer}
 use Rattle.packet.specs.declared.SealAnswer.the-variants as SealAnswer-cases
-
--- the refusal of a number
-abbrev named : ℕ → Refusal
-named k = getD (Generator ∷ Length ∷ Limit ∷ Syndrome ∷ TableLength ∷ TableEntry ∷ Mark ∷ Output ∷ Range ∷ Field ∷ []) (k - 1) Values
-
-named-number : (r : Refusal) → named (number r) ≡ r
-named-number Generator = refl
-named-number Length = refl
-named-number Limit = refl
-named-number Syndrome = refl
-named-number TableLength = refl
-named-number TableEntry = refl
-named-number Mark = refl
-named-number Output = refl
-named-number Range = refl
-named-number Field = refl
-named-number Values = refl
-
--- different refusals have different numbers
-number-tells : (r q : Refusal) → number r ≡ number q → r ≡ q
-number-tells r q e = sym (named-number r) ∙ ap named e ∙ named-number q
 
 remainder-tells : (a b : RemainderAnswer) → remainderAnswer a ≡ remainderAnswer b → a ≡ b
 remainder-tells (RemainderAnswer-cases.Remainder v) (RemainderAnswer-cases.Remainder w) e = ap RemainderAnswer-cases.Remainder cc

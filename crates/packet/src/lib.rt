@@ -159,7 +159,7 @@ fn divide(g: Generator, register: u64, packet: &[u8]) -> u64
 }
 
 // The same by ccitt, with one look-up a byte.
-fn divide_by_table(table: &[u16], register: u16, packet: &[u8]) -> u16
+fn divide_by_ccitt(table: &[u16], register: u16, packet: &[u8]) -> u16
     requires { ⌜ now table ≡ byteTable ⌝ }
     ensures { λ r. ⌜ r ≡ rem (ccitt .degree) (ccitt .coefficients) (polynomialAfter register (now (packet .entry))) ⌝ }
 {
@@ -180,25 +180,25 @@ fn first_two(packet: &[u8]) -> u16
     packet[0] as u16 * 256 + packet[1] as u16
 }
 
-// The remainder of a packet by ccitt: the register starts with the first 16 bits, and the initial value added to them.
-fn remainder_by_table(crc: Crc, packet: &[u8]) -> u64
+// The remainder of a packet by ccitt: the register starts with the first 16 bits, the initial value added to them.
+fn remainder_by_ccitt(crc: Crc, packet: &[u8]) -> u64
     requires { ⌜ (crc .generator ≡ ccitt) × Readable crc (now packet) ⌝ }
     ensures { λ r. ⌜ r ≡ remainder crc (now (packet .entry)) ⌝ }
 {
     let first = first_two(packet);
     let register = first ^ crc.init as u16;
     let table = ccitt::byte_table();
-    divide_by_table(&table, register, &packet[2..]) as u64 ^ crc.xorout
+    divide_by_ccitt(&table, register, &packet[2..]) as u64 ^ crc.xorout
 }
 
-// The remainder of a packet: the register starts so that the initial value is added at the packet's first n bits.
+// The remainder of a packet. But for ccitt, the register starts so that the initial value is added at the first n bits.
 pub fn remainder_of(crc: Crc, packet: &[u8]) -> u64
     requires { ⌜ Readable crc (now packet) ⌝ }
     ensures { λ r. ⌜ r ≡ remainder crc (now (packet .entry)) ⌝ }
 {
     let g = crc.generator;
     if g.coefficients == Generator::CCITT.coefficients {
-        return remainder_by_table(crc, packet);
+        return remainder_by_ccitt(crc, packet);
     }
     divide(g, register_of(g, crc.init), packet) ^ crc.xorout
 }

@@ -189,3 +189,8 @@ module _ (n g : ℕ) (low : 2 ^ n ≤ g) (high : g < 2 ^ suc n) where
       ∙ ap (λ (x : ℕ). bitXor x (rem n g b)) (sym (rem-shift k a))
       ∙ sym (rem-xor (a * 2 ^ k) b)
       ∙ ap (rem n g) (xor-shifted a k b h)
+
+  -- of a number with n bits behind its top only the top is divided
+  pub rem-top : (top b : ℕ) → b < 2 ^ n → rem n g (top * 2 ^ n + b) ≡ bitXor (rem n g (top * 2 ^ n)) b
+  rem-top top b h =
+      ap (rem n g) (sym (xor-shifted top n b h)) ∙ rem-xor (top * 2 ^ n) b ∙ ap (bitXor (rem n g (top * 2 ^ n))) (rem-small n g b h)

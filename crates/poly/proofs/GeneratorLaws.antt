@@ -1,5 +1,5 @@
 -- When a number is accepted as a generator, by each part of condition 1, and what is then known of it.
-use mathlib.Core.Path.{_≡_, sym, _∙_}
+use mathlib.Core.Path.{_≡_, sym, ap₂, _∙_}
 use mathlib.Core.Bool.{Bool, true, false, true≢false, or-true}
 use Prim.Native.Nat.{ℕ, _*_, _/_, _%_, _^_, _<_, _≤_}
 use native.Mathlib.Omega.{arith}
@@ -12,7 +12,7 @@ use Rattle.poly.specs.declared.Generator.{Generator}
 use Rattle.poly.specs.Polynomial.{degree}
 use Rattle.poly.specs.Generators.{leastDegree, greatestDegree, unfit, generatorOf}
 use Rattle.poly.specs.Fit.{Fit}
-use Rattle.poly.proofs.DegreeLaws.{degree-of}
+use Rattle.poly.proofs.DegreeLaws.{degree-of, degree-unique}
 
 pub even-unfit : (g : ℕ) → g % 2 ≡ 0 → unfit g ≡ true
 unfolding unfit
@@ -49,6 +49,12 @@ fit-accepted g e =
 -- the same of the generator that was made once condition 1 was tested
 pub made-fit : (g : ℕ) {v : Generator} {t : Bool} → t ≡ unfit g → t ≡ false → v ≡ generatorOf g → Fit v
 made-fit g e h m = rw m (fit-accepted g (sym e ∙ h))
+
+-- two that are fit and have one number are one
+pub fit-by-number : (g h : Generator) → Fit g → Fit h → g .coefficients ≡ h .coefficients → g ≡ h
+fit-by-number g h f k e =
+    ap₂ (λ (x y : ℕ). record { coefficients = x; degree = y }) e
+    (degree-unique (h .coefficients) (g .degree) (h .degree) (rw e at (f .divisor .low)) (rw e at (f .divisor .high)) (k .divisor .low) (k .divisor .high))
 
 -- ---- how small a generator is that is fit: what casts, shifts and products in the code rest on ----
 

@@ -1,19 +1,21 @@
--- `remainder_of` divides by table where the generator is ccitt. Otherwise it divides with a register that stands for the
+-- `remainder_of` divides by the byte table where the generator is ccitt. Otherwise it divides with a register that stands for the
 -- initial value, and adds the final value.
 use mathlib.Core.Path.{ap, _∙_}
 use Prim.Native.Nat.{ℕ}
 use native.Mathlib.Omega.{arith}
 use lib.Bits.{bitXor}
 use borrow.Author.Needs.{needs}
-use Rattle.ccitt.proofs.ByteLaws.{ccitt-by-number}
+use Rattle.poly.specs.Generators.{ccitt}
+use Rattle.poly.proofs.GeneratorLaws.{fit-by-number}
+use Rattle.ccitt.proofs.ByteLaws.{ccitt-fit}
 use Rattle.packet.proofs.ReadLaws.{register-reads}
 use Rattle.packet.proofs.remainder_of.Statement.{statement}
 use Rattle.packet.proofs.remainder_of.Tie as tie
 
-remainder-by-table-requires : tie.Need-remainder-by-table-requires
-remainder-by-table-requires c κs =
+remainder-by-ccitt-requires : tie.Need-remainder-by-ccitt-requires
+remainder-by-ccitt-requires c κs =
     let s = c .before .before .before .before .before in
-    (ccitt-by-number (s .args .crc .generator) (s .pre .fit) (omega (arith, c .if1 .taken)), s .pre)
+    (fit-by-number (s .args .crc .generator) ccitt (s .pre .fit) ccitt-fit (omega (arith, c .if1 .taken)), s .pre)
 
 returns-2 : tie.Need-returns-2
 returns-2 c =
@@ -26,4 +28,4 @@ returns-2 c =
 
 pub remainder-of-spec : {M : Type 1} → statement M
 remainder-of-spec =
-    tie.close (tie.spec remainder-by-table-requires (λ c. search needs) (λ c κs. search needs) (λ c κs. search needs) returns-2)
+    tie.close (tie.spec remainder-by-ccitt-requires (λ c. search needs) (λ c κs. search needs) (λ c κs. search needs) returns-2)

@@ -1,12 +1,12 @@
--- `divide_by_table` gives what `divide` gives, by ccitt. Invariant: r is the remainder of the bytes read.
+-- `divide_by_ccitt` gives what `divide` gives, by ccitt. Invariant: r is the remainder of the bytes read.
 use Prim.Native.Nat.{_-_, _≤_}
 use native.Mathlib.Omega.{arith}
 use lib.ListN.{length}
 use Rattle.poly.specs.Generators.{ccitt}
 use Rattle.ccitt.proofs.ByteLaws.{ccitt-degree, ccitt-fit}
 use Rattle.packet.proofs.DivideLaws.{Divided, divided-none, divided-more, divided-all}
-use Rattle.packet.proofs.divide_by_table.Statement.{statement}
-use Rattle.packet.proofs.divide_by_table.Tie as tie
+use Rattle.packet.proofs.divide_by_ccitt.Statement.{statement}
+use Rattle.packet.proofs.divide_by_ccitt.Tie as tie
 
 abbrev Inv-loop : tie.InvT-loop
 Inv-loop table register packet r₀ i₀ r i = (i ≤ length packet) × Divided ccitt register packet i r
@@ -36,6 +36,6 @@ returns c =
     let s = l .before .before .before in
     divided-all ccitt ccitt-fit (s .args .register) (s .args .packet .now) (l .loop .i) (omega arith) (l .loop .inv .1)
 
-pub divide-by-table-spec : {M : Type 1} → statement M
-divide-by-table-spec =
+pub divide-by-ccitt-spec : {M : Type 1} → statement M
+divide-by-ccitt-spec =
     tie.close (tie.spec Inv-loop μ-loop loop-holds (λ c. omega arith) append-requires (λ c. omega arith) (λ c. omega arith) loop-again returns)

@@ -1,4 +1,4 @@
--- `remainder_by_table` divides what is behind the first two bytes, with these and the initial value as register.
+-- `remainder_by_ccitt` divides what is behind the first two bytes, with these and the initial value as register.
 use Prim.Native.Nat.{_-_, _≤_}
 use native.Mathlib.Omega.{arith}
 use borrow.Author.Needs.{needs}
@@ -6,8 +6,8 @@ use lib.ListN.{length, drop, length-drop}
 use lib.Seq.{take-all}
 use lib.Bits.{xor-comm, xor-zero-r}
 use Rattle.packet.proofs.CcittLaws.{two-bytes, init-lt, two-bytes-read}
-use Rattle.packet.proofs.remainder_by_table.Statement.{statement}
-use Rattle.packet.proofs.remainder_by_table.Tie as tie
+use Rattle.packet.proofs.remainder_by_ccitt.Statement.{statement}
+use Rattle.packet.proofs.remainder_by_ccitt.Tie as tie
 
 enough : (s : tie.Start) → 2 ≤ length (s .args .packet .now)
 enough s = two-bytes (s .args .crc) (s .args .packet .now) (s .pre .0) (s .pre .1)
@@ -21,12 +21,13 @@ returns c =
     let known = first .before in
     let s = known .before in
     let p = s .args .packet .now in
-    -- the register is a sum, in whatever order it is written
     two-bytes-read (s .args .crc) p (s .pre .0) (s .pre .1) (λ i. omega (arith, known .shared-slice-known .given i)) (first .first-two .ensures)
-    (take-all (length p - 2) (drop 2 p) (omega (arith, length-drop 2 p))) (search (xor-comm, xor-zero-r)) (c .before .divide-by-table .ensures)
+    (take-all (length p - 2) (drop 2 p) (omega (arith, length-drop 2 p)))
+    -- the sum may be written in another order, or with a zero: refl would tie the proof to one
+    (search (xor-comm, xor-zero-r)) (c .before .divide-by-ccitt .ensures)
 
-pub remainder-by-table-spec : {M : Type 1} → statement M
-remainder-by-table-spec =
+pub remainder-by-ccitt-spec : {M : Type 1} → statement M
+remainder-by-ccitt-spec =
     tie.close
     (tie.spec
     (λ c κs. enough (c .before))
