@@ -24,11 +24,12 @@ module _ (c : Crc) (s : List ℕ) (is : c .generator ≡ ccitt) (r : Readable c 
   pub init-lt : c .init < 2 ^ 16
   init-lt = rw of-16 at (r .init)
 
-  pub two-bytes-read : {first register t : ℕ} {rest : List ℕ} → Bytes s → first ≡ polynomial (take 2 s) → rest ≡ drop 2 s
+  pub two-bytes-read : {first register t v : ℕ} {rest : List ℕ} → Bytes s → first ≡ polynomial (take 2 s) → rest ≡ drop 2 s
       → register ≡ bitXor first (c .init) → t ≡ rem (ccitt .degree) (ccitt .coefficients) (polynomialAfter register rest)
-      → bitXor t (c .xorout) ≡ remainder c s
-  two-bytes-read b two behind starts divided =
-      ap (λ (x : ℕ). bitXor x (c .xorout))
+      → v ≡ bitXor t (c .xorout) → v ≡ remainder c s
+  two-bytes-read b two behind starts divided ends =
+      ends
+      ∙ ap (λ (x : ℕ). bitXor x (c .xorout))
       (divided
       ∙ ap₂ (λ (x : ℕ) (l : List ℕ). rem (ccitt .degree) (ccitt .coefficients) (polynomialAfter x l)) (starts ∙ ap (λ (x : ℕ). bitXor x (c .init)) two) behind
       ∙ ap (λ (g : Generator). rem (g .degree) (g .coefficients) (polynomialAfter (bitXor (polynomial (take 2 s)) (c .init)) (drop 2 s))) (sym is))

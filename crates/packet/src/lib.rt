@@ -177,7 +177,9 @@ fn first_two(packet: &[u8]) -> u16
     requires { ⌜ 2 ≤ length (now packet) ⌝ }
     ensures { λ r. ⌜ r ≡ polynomial (take 2 (now (packet .entry))) ⌝ }
 {
-    packet[0] as u16 * 256 + packet[1] as u16
+    let high = packet[0] as u16;
+    let low = packet[1] as u16;
+    high * 256 + low
 }
 
 // The remainder of a packet by ccitt: the register starts with the first 16 bits, the initial value added to them.

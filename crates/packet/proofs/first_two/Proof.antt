@@ -13,9 +13,9 @@ first-two-spec =
     tie.close
     (tie.spec
     (λ c. search needs)
-    (λ c. record { fits = omega (arith, c .shared-slice-known .given 0, c .shared-slice-known .given 1) })
-    (λ c. record { fits = omega (arith, c .shared-slice-known .given 0, c .shared-slice-known .given 1) })
+    (λ c. record { fits = omega (arith, c .shared-slice-known .given 0) })
     (λ c. search needs)
+    (λ c. record { fits = omega (arith, c .shared-slice-known2 .given 1) })
     (λ c. record { fits = omega (arith, c .shared-slice-known2 .given 0, c .shared-slice-known2 .given 1) })
     (λ c. record { fits = omega (arith, c .shared-slice-known2 .given 0, c .shared-slice-known2 .given 1) })
     returns)

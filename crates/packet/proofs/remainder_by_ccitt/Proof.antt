@@ -23,8 +23,8 @@ returns c =
     let p = s .args .packet .now in
     two-bytes-read (s .args .crc) p (s .pre .0) (s .pre .1) (λ i. omega (arith, known .shared-slice-known .given i)) (first .first-two .ensures)
     (take-all (length p - 2) (drop 2 p) (omega (arith, length-drop 2 p)))
-    -- the sum may be written in another order, or with a zero: refl would tie the proof to one
-    (search (xor-comm, xor-zero-r)) (c .before .divide-by-ccitt .ensures)
+    -- both sums may be written in another order, or with a zero: refl would tie the proof to one
+    (search (xor-comm, xor-zero-r)) (c .before .divide-by-ccitt .ensures) (search (xor-comm, xor-zero-r))
 
 pub remainder-by-ccitt-spec : {M : Type 1} → statement M
 remainder-by-ccitt-spec =
