@@ -30,8 +30,8 @@ one-fails true p e kept h = absurd (let z : _≡_ {A = ℕ} 0 1 = cc in omega ar
 one-fails false p e kept h = rw (append-nil kept) h
 
 pub first-passes : (ok : Bool) (p : List ℕ) {t : Tally} {q : Pattern} → not ok ≡ false → t .count ≡ 0 → positions q ≡ p → (kept : List (List ℕ)) → Tallied kept t
-    → Tallied (kept ++ added ok p) (record { count = 1; chosen = q })
-first-passes true p e z n [] h = record { number = refl; first = n }
+    → Tallied (kept ++ added ok p) (record { count = t .count + 1; chosen = q })
+first-passes true p e z n [] h = record { number = omega (arith, z); first = n }
 first-passes true p e z n (k ∷ kept) h = absurd (omega (arith, h .number))
 first-passes false p e z n kept h = absurd (let z : _≡_ {A = ℕ} 0 1 = cc in omega arith)
 

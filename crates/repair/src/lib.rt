@@ -65,18 +65,15 @@ fn tally_one(t: Tally, ok: bool, pos: &[u16]) -> Tally
     if !ok {
         return t;
     }
-    let count = t.count;
     let chosen = t.chosen;
-    if count == 0 {
+    let count = t.count + 1;
+    if count == 1 {
         return Tally {
-            count: 1,
+            count,
             chosen: patterns::from_positions(pos),
         };
     }
-    Tally {
-        count: count + 1,
-        chosen,
-    }
+    Tally { count, chosen }
 }
 
 // Tallies the candidates from the pattern found on.
