@@ -33,7 +33,7 @@ use Rattle.pages.specs.Calls.{pageCall}
 use Rattle.pages.specs.Sequences.{Lending, requestWith, acceptedCalls}
 use Rattle.pages.proofs.PageTheorem.{page-accepts}
 use Rattle.pages.proofs.SequenceTheorem.{page-sequence, sequence-accepted}
-use Rattle.repair.specs.Verdicts.{passesBoth, packetList, Said, intact, repaired, several, nothing, verdict, outputFor, Leads, leading}
+use Rattle.repair.specs.Verdicts.{passesBoth, packetList, Said, intact, repaired, several, nothing, verdict, outputFor, Leads, leading, Earliest}
 use Rattle.repair.specs.Calls.{repairConditions, repairCall, repairOutput, unfitCopy}
 use Rattle.repair.proofs.VerdictLaws.{verdict-intact, verdict-nothing, verdict-repaired, verdict-several, output-repaired, output-unchanged, in-leading, leading-sorted, two-lead}
 use Rattle.repair.proofs.SentLaws.{sent-packet, sent-flipped}
@@ -99,14 +99,14 @@ module _ (c : Crc) (k : Check) (limit : ℕ) (s : List ℕ) (supposed : Supposed
       accepting none = none
       accepting (each {x = lent} h hs) = each (λ m fit. (pageOf (remaining (packetList c limit s) m) (length (lent .output)), page-accepted lent h m fit)) (accepting hs)
 
-  -- ---- repair: `named` is the pattern that an answer of Several names ----
+  -- ---- repair ----
 
   -- a repair with right tables and an output as long as the packet is accepted, so what follows is not about nothing
-  pub repair-accepted : (out named : List ℕ) → length out ≡ length s
-      → repairCall (repairWith c k limit s (record { steps = stepTable (c .generator .degree) (c .generator .coefficients); firsts = firstTable (c .generator .degree) (c .generator .coefficients); output = out })) named
-      ≡ accepted (verdict c k limit s named)
+  pub repair-accepted : (out : List ℕ) → length out ≡ length s
+      → repairCall (repairWith c k limit s (record { steps = stepTable (c .generator .degree) (c .generator .coefficients); firsts = firstTable (c .generator .degree) (c .generator .coefficients); output = out }))
+      ≡ accepted (verdict c k limit s)
   unfolding unfitCopy
-  repair-accepted out named h =
+  repair-accepted out h =
       simp (
         supposed .fitGenerator,
         supposed .fitLength,
@@ -128,43 +128,50 @@ module _ (c : Crc) (k : Check) (limit : ℕ) (s : List ℕ) (supposed : Supposed
       ↔ ((p : List ℕ) × (q : List ℕ) × Leads c k limit s p × Leads c k limit s q × (p ≡ q → ⊥)))
   the-leading = (in-leading c k limit s, leading-sorted c k limit s, two-lead c k limit s)
 
-  module _ (lent : Lending) (named : List ℕ) (v : Said) (told : repairCall (repairWith c k limit s lent) named ≡ accepted v) where
-    told-verdict : verdict c k limit s named ≡ v
-    told-verdict = judge-value (repairConditions (repairWith c k limit s lent)) (verdict c k limit s named) v told
+  module _ (lent : Lending) (v : Said) (told : repairCall (repairWith c k limit s lent) ≡ accepted v) where
+    told-verdict : verdict c k limit s ≡ v
+    told-verdict = judge-value (repairConditions (repairWith c k limit s lent)) (verdict c k limit s) v told
 
     told-output : repairOutput (repairWith c k limit s lent) ≡ outputFor c k limit s (lent .output)
     told-output =
-        judge-accepted (repairConditions (repairWith c k limit s lent)) (verdict c k limit s named) v (λ _. lent .output)
+        judge-accepted (repairConditions (repairWith c k limit s lent)) (verdict c k limit s) v (λ _. lent .output)
         (outputFor c k limit s (lent .output)) told
 
     -- 3.4: Intact exactly where the packet passes both checks
     pub says-intact : v ≡ intact ↔ (passesBoth c k s ≡ true)
-    says-intact = rw (← told-verdict) (verdict-intact named c k limit s)
+    says-intact = rw (← told-verdict) (verdict-intact c k limit s)
 
     -- of any other packet None, Repaired or Several if none, exactly one or more of the listed sets turn it into one that passes
-    -- both, and only then; Several with how many
+    -- both, and only then; Several with how many, and with the one of them that stands first
     pub says-otherwise : passesBoth c k s ≡ false
         → (v ≡ nothing ↔ ((ps : List ℕ) → Leads c k limit s ps → ⊥))
         × ((p : List ℕ) → v ≡ repaired p ↔ (Leads c k limit s p × ((q : List ℕ) → Leads c k limit s q → q ≡ p)))
-        × ((n : ℕ) (q : List ℕ) → v ≡ several n q ↔ ((2 ≤ length (leading c k limit s)) × (n ≡ length (leading c k limit s)) × (q ≡ named)))
+        × ((n : ℕ) (q : List ℕ) → v ≡ several n q ↔ ((2 ≤ length (leading c k limit s)) × (n ≡ length (leading c k limit s)) × Earliest (Leads c k limit s) q))
     says-otherwise h =
         let fit = fit-of supposed in
         let bs = supposed .bytes in
-        let none = verdict-nothing c k limit s fit bs named in
-        let one = verdict-repaired c k limit s fit bs named in
-        let more = verdict-several c k limit s fit bs named in
+        let none = verdict-nothing c k limit s fit bs in
+        let one = verdict-repaired c k limit s fit bs in
+        let more = verdict-several c k limit s fit bs in
         rw (← told-verdict) (
           (λ w. none .0 w .1, λ w. none .1 (h, w)),
           λ p. (λ w. let r = one p .0 w in (r .1, r .2), λ w. one p .1 (h, w .0, w .1)),
           λ n q. (λ w. let r = more n q .0 w in (r .1, r .2, r .3), λ w. more n q .1 (h, w .0, w .1, w .2)),
         )
 
+    -- so the pattern that Several names leads to a passing packet, and every other that does comes after it
+    pub names-the-earliest : (n : ℕ) (q : List ℕ) → v ≡ several n q
+        → Leads c k limit s q × ((p : List ℕ) → Leads c k limit s p → (p ≡ q → ⊥) → before q p ≡ true)
+    names-the-earliest n q h =
+        let e = verdict-several c k limit s (fit-of supposed) (supposed .bytes) n q .0 (told-verdict ∙ h) .3 in
+        (e .meets, e .ahead)
+
     -- section 6: for Repaired the output holds the packet with the pattern's bits flipped, and for any other verdict it stays
     pub the-output : ((p : List ℕ) → v ≡ repaired p → repairOutput (repairWith c k limit s lent) ≡ flips s p)
         × (((p : List ℕ) → v ≡ repaired p → ⊥) → repairOutput (repairWith c k limit s lent) ≡ lent .output)
     the-output = (
-      λ p h. told-output ∙ output-repaired named c k limit s p (lent .output) (told-verdict ∙ h),
-      λ other. told-output ∙ output-unchanged named c k limit s (lent .output) (λ p h. other p (sym told-verdict ∙ h)),
+      λ p h. told-output ∙ output-repaired c k limit s p (lent .output) (told-verdict ∙ h),
+      λ other. told-output ∙ output-unchanged c k limit s (lent .output) (λ p h. other p (sym told-verdict ∙ h)),
     )
 
     -- 3.5: for any packet of that length that passes both checks and from which at most N bits are different, None is not said,
@@ -172,12 +179,12 @@ module _ (c : Crc) (k : Check) (limit : ℕ) (s : List ℕ) (supposed : Supposed
     pub the-packet-sent : (t : List ℕ) → Bytes t → length s ≡ length t → passesBoth c k t ≡ true → length (difference s t) ≤ limit
         → (v ≡ nothing → ⊥) × ((p : List ℕ) → v ≡ repaired p → (flips s p ≡ t) × (repairOutput (repairWith c k limit s lent) ≡ t))
     the-packet-sent t bt same pass few =
-        let r = sent-packet c k limit s (fit-of supposed) (supposed .bytes) t bt same pass few named (lent .output) in
+        let r = sent-packet c k limit s (fit-of supposed) (supposed .bytes) t bt same pass few (lent .output) in
         (λ h. r .0 (told-verdict ∙ h), λ p h. let q = r .1 p (told-verdict ∙ h) in (q .0, told-output ∙ q .1))
 
     -- the same of any set of at most N bits that flipped on the way
     pub the-bits-flipped : (t ps : List ℕ) → Bytes t → Ascending (bits t) 0 ps → length ps ≤ limit → s ≡ flips t ps → passesBoth c k t ≡ true
         → (v ≡ nothing → ⊥) × ((p : List ℕ) → v ≡ repaired p → (flips s p ≡ t) × (repairOutput (repairWith c k limit s lent) ≡ t))
     the-bits-flipped t ps bt ascends few received pass =
-        let r = sent-flipped c k limit s (fit-of supposed) (supposed .bytes) t ps bt ascends few received pass named (lent .output) in
+        let r = sent-flipped c k limit s (fit-of supposed) (supposed .bytes) t ps bt ascends few received pass (lent .output) in
         (λ h. r .0 (told-verdict ∙ h), λ p h. let q = r .1 p (told-verdict ∙ h) in (q .0, told-output ∙ q .1))

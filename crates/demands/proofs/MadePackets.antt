@@ -78,10 +78,10 @@ module _ (g init xorout seed : ℕ) (k : Check) (f : ℕ) where
         })
 
     -- so a repair of it by the same CRC and range, at every limit, with right tables and an output of its length, says Intact
-    pub made-intact : (limit : ℕ) → unfitLimit limit ≡ false → (out named : List ℕ) → length out ≡ length s
-        → repairCall (repairWith crc k limit (makePacket crc seed k f s) (record { steps = stepTable (degree g) g; firsts = firstTable (degree g) g; output = out })) named
+    pub made-intact : (limit : ℕ) → unfitLimit limit ≡ false → (out : List ℕ) → length out ≡ length s
+        → repairCall (repairWith crc k limit (makePacket crc seed k f s) (record { steps = stepTable (degree g) g; firsts = firstTable (degree g) g; output = out }))
         ≡ accepted intact
-    made-intact limit fit out named room =
+    made-intact limit fit out room =
         let t = makePacket crc seed k f s in
         let same : length out ≡ length t = room ∙ sym (ap length leaves ∙ made-length g init xorout seed k f (length s) clear) in
-        repair-accepted crc k limit t (supposed limit fit) out named same ∙ ap accepted (verdict-intact named crc k limit t .1 made-passes)
+        repair-accepted crc k limit t (supposed limit fit) out same ∙ ap accepted (verdict-intact crc k limit t .1 made-passes)

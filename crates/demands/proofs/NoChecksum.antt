@@ -24,9 +24,9 @@ use Rattle.maker.specs.Calls.{makeConditions, makeCall}
 use Rattle.tables.specs.Tables.{stepTable, firstTable}
 use Rattle.patterns.proofs.SiftLaws.{sift-all}
 use Rattle.pages.specs.Sequences.{Lending}
-use Rattle.repair.specs.Verdicts.{passesBoth, packetList, candidates, Said, intact, repaired, several, nothing, verdict, Leads, leading}
+use Rattle.repair.specs.Verdicts.{passesBoth, packetList, candidates, Said, intact, repaired, several, nothing, verdict, Leads, leading, Earliest}
 use Rattle.repair.specs.Calls.{repairConditions, repairCall, repairOutput}
-use Rattle.repair.proofs.VerdictLaws.{candidates-leading}
+use Rattle.repair.proofs.VerdictLaws.{candidates-leading, earliest-same}
 use Rattle.demands.specs.Demand3.{Supposed, repairWith}
 use Rattle.demands.proofs.Demand3.{fit-of, repair-accepted, the-leading, says-intact, says-otherwise, the-packet-sent, the-bits-flipped}
 
@@ -51,21 +51,21 @@ module _ (k : Check) (one-place : k .from ≡ k .to) where
   all-candidates c limit s = sift-all (λ ps. passes k (flips s ps)) (packetList c limit s) (λ ps _. no-check-passes k (flips s ps) one-place)
 
 -- a range [a,a) that reaches into the CRC is refused by 9, unless an earlier condition applies
-pub refused-beyond : (c : Crc) (limit : ℕ) (s : List ℕ) (a : ℕ) → bits s < 8 * a + c .generator .degree → (lent : Lending) (named : List ℕ)
-    → let r = repairWith c (checkOf a a) limit s lent in repairCall r named ≡ judge (earlier 9 (repairConditions r)) refused (refused 9)
-refused-beyond c limit s a past lent named =
+pub refused-beyond : (c : Crc) (limit : ℕ) (s : List ℕ) (a : ℕ) → bits s < 8 * a + c .generator .degree → (lent : Lending)
+    → let r = repairWith c (checkOf a a) limit s lent in repairCall r ≡ judge (earlier 9 (repairConditions r)) refused (refused 9)
+refused-beyond c limit s a past lent =
     judge-applied 9 (repairConditions (repairWith c (checkOf a a) limit s lent)) _
     (range-unfit (c .generator .degree) (bits s) (checkOf a a) (omega arith) ∙ lt-ltb _ _ past)
 
--- wherever such a range is accepted, a repair that names the same answers the same, and leaves the same output
+-- wherever such a range is accepted, a repair answers the same, and leaves the same output
 pub same-anywhere : (c : Crc) (k j : Check) (limit : ℕ) (s : List ℕ) → k .from ≡ k .to → j .from ≡ j .to
     → unfitRange (c .generator .degree) (bits s) k ≡ false → unfitRange (c .generator .degree) (bits s) j ≡ false → (lent : Lending)
-    → ((named : List ℕ) → repairCall (repairWith c k limit s lent) named ≡ repairCall (repairWith c j limit s lent) named)
+    → (repairCall (repairWith c k limit s lent) ≡ repairCall (repairWith c j limit s lent))
     × (repairOutput (repairWith c k limit s lent) ≡ repairOutput (repairWith c j limit s lent))
 same-anywhere c k j limit s at-k at-j fit-k fit-j lent =
     let passing = passes-by-crc k at-k c s ∙ sym (passes-by-crc j at-j c s) in
     let listed = all-candidates k at-k c limit s ∙ sym (all-candidates j at-j c limit s) in
-    (λ named. rw (fit-k, fit-j, passing, listed), rw (fit-k, fit-j, passing, listed))
+    (rw (fit-k, fit-j, passing, listed), rw (fit-k, fit-j, passing, listed))
 
 -- ---- a repair of an accepted packet ----
 
@@ -75,8 +75,8 @@ module _ (c : Crc) (k : Check) (limit : ℕ) (s : List ℕ) (supposed : Supposed
   right out = record { steps = stepTable (c .generator .degree) (c .generator .coefficients); firsts = firstTable (c .generator .degree) (c .generator .coefficients); output = out }
 
   -- [a,a) is accepted wherever it does not reach into the CRC, with right tables and an output as long as the packet
-  pub accepted-anywhere : (a : ℕ) → 8 * a + c .generator .degree ≤ bits s → (out named : List ℕ) → length out ≡ length s
-      → repairCall (repairWith c (checkOf a a) limit s (right out)) named ≡ accepted (verdict c (checkOf a a) limit s named)
+  pub accepted-anywhere : (a : ℕ) → 8 * a + c .generator .degree ≤ bits s → (out : List ℕ) → length out ≡ length s
+      → repairCall (repairWith c (checkOf a a) limit s (right out)) ≡ accepted (verdict c (checkOf a a) limit s)
   accepted-anywhere a within = repair-accepted c (checkOf a a) limit s (moved a within)
     where
       moved : (a : ℕ) → 8 * a + c .generator .degree ≤ bits s → Supposed c (checkOf a a) limit s
@@ -92,8 +92,8 @@ module _ (c : Crc) (k : Check) (limit : ℕ) (s : List ℕ) (supposed : Supposed
           }
 
   -- so [0,0) always is
-  pub accepted-at-0 : (out named : List ℕ) → length out ≡ length s
-      → repairCall (repairWith c (checkOf 0 0) limit s (right out)) named ≡ accepted (verdict c (checkOf 0 0) limit s named)
+  pub accepted-at-0 : (out : List ℕ) → length out ≡ length s
+      → repairCall (repairWith c (checkOf 0 0) limit s (right out)) ≡ accepted (verdict c (checkOf 0 0) limit s)
   accepted-at-0 = accepted-anywhere 0 (omega (arith, fit-length (c .generator .degree) (bits s) (supposed .fitLength) .0))
 
 module _ (c : Crc) (k : Check) (limit : ℕ) (s : List ℕ) (supposed : Supposed c k limit s) (one-place : k .from ≡ k .to) where
@@ -103,23 +103,23 @@ module _ (c : Crc) (k : Check) (limit : ℕ) (s : List ℕ) (supposed : Supposed
   listed-leads : (ps : List ℕ) → In ps (packetList c limit s) ↔ Leads c k limit s ps
   listed-leads ps = rw all-lead at (the-leading c k limit s supposed .0 ps)
 
-  module _ (lent : Lending) (named : List ℕ) (v : Said) (told : repairCall (repairWith c k limit s lent) named ≡ accepted v) where
+  module _ (lent : Lending) (v : Said) (told : repairCall (repairWith c k limit s lent) ≡ accepted v) where
     -- Intact exactly where the remainder is 0
     pub says-intact-by-crc : v ≡ intact ↔ (remainder c s ≡ 0)
     says-intact-by-crc =
-        let says = says-intact c k limit s supposed lent named v told in (
+        let says = says-intact c k limit s supposed lent v told in (
           λ h. eqb-true _ _ (sym (passes-by-crc k one-place c s) ∙ says .0 h),
           λ h. says .1 (passes-by-crc k one-place c s ∙ eq-eqb _ _ h),
         )
 
     -- of any other packet None, Repaired or Several if none, exactly one or more sets are listed, and only then; Several with
-    -- how many
+    -- how many, and with the one that stands first
     pub says-otherwise-by-list : (remainder c s ≡ 0 → ⊥)
         → (v ≡ nothing ↔ ((ps : List ℕ) → In ps (packetList c limit s) → ⊥))
         × ((p : List ℕ) → v ≡ repaired p ↔ (In p (packetList c limit s) × ((q : List ℕ) → In q (packetList c limit s) → q ≡ p)))
-        × ((n : ℕ) (q : List ℕ) → v ≡ several n q ↔ ((2 ≤ length (packetList c limit s)) × (n ≡ length (packetList c limit s)) × (q ≡ named)))
+        × ((n : ℕ) (q : List ℕ) → v ≡ several n q ↔ ((2 ≤ length (packetList c limit s)) × (n ≡ length (packetList c limit s)) × Earliest (λ ps. In ps (packetList c limit s)) q))
     says-otherwise-by-list h =
-        let says = says-otherwise c k limit s supposed lent named v told (passes-by-crc k one-place c s ∙ ne-eqb _ _ h) in (
+        let says = says-otherwise c k limit s supposed lent v told (passes-by-crc k one-place c s ∙ ne-eqb _ _ h) in (
           (
             λ e ps i. says .0 .0 e ps (listed-leads ps .0 i),
             λ empty. says .0 .1 (λ ps l. empty ps (listed-leads ps .1 l)),
@@ -128,16 +128,19 @@ module _ (c : Crc) (k : Check) (limit : ℕ) (s : List ℕ) (supposed : Supposed
             λ e. let r = says .1 p .0 e in (listed-leads p .1 (r .0), λ q i. r .1 q (listed-leads q .0 i)),
             λ r. says .1 p .1 (listed-leads p .0 (r .0), λ q l. r .1 q (listed-leads q .1 l)),
           ),
-          rw all-lead at (says .2),
+          λ n q. (
+            λ e. let r = rw all-lead at (says .2 n q .0 e) in (r .0, r .1, earliest-same listed-leads q .1 (r .2)),
+            λ r. says .2 n q .1 (rw all-lead (r .0, r .1, earliest-same listed-leads q .0 (r .2))),
+          ),
         )
 
     -- of what was sent, if it passed the CRC and at most N bits are different: None is not said, and a repair is that packet
     pub sent-by-crc : (t : List ℕ) → Bytes t → length s ≡ length t → remainder c t ≡ 0 → length (difference s t) ≤ limit
         → (v ≡ nothing → ⊥) × ((p : List ℕ) → v ≡ repaired p → (flips s p ≡ t) × (repairOutput (repairWith c k limit s lent) ≡ t))
-    sent-by-crc t bt same zero = the-packet-sent c k limit s supposed lent named v told t bt same (passes-by-crc k one-place c t ∙ eq-eqb _ _ zero)
+    sent-by-crc t bt same zero = the-packet-sent c k limit s supposed lent v told t bt same (passes-by-crc k one-place c t ∙ eq-eqb _ _ zero)
 
     -- the same of any set of at most N bits that flipped on the way
     pub flipped-by-crc : (t ps : List ℕ) → Bytes t → Ascending (bits t) 0 ps → length ps ≤ limit → s ≡ flips t ps → remainder c t ≡ 0
         → (v ≡ nothing → ⊥) × ((p : List ℕ) → v ≡ repaired p → (flips s p ≡ t) × (repairOutput (repairWith c k limit s lent) ≡ t))
     flipped-by-crc t ps bt ascends few received zero =
-        the-bits-flipped c k limit s supposed lent named v told t ps bt ascends few received (passes-by-crc k one-place c t ∙ eq-eqb _ _ zero)
+        the-bits-flipped c k limit s supposed lent v told t ps bt ascends few received (passes-by-crc k one-place c t ∙ eq-eqb _ _ zero)

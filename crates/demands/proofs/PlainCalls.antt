@@ -13,7 +13,7 @@ use Rattle.packet.specs.declared.Crc.{Crc}
 use Rattle.packet.proofs.ReadLaws.{read-plain}
 use Rattle.repair.specs.Verdicts.{passesBoth, candidates}
 use Rattle.repair.specs.Calls.{Repair, repairCall, repairOutput}
-use Rattle.demands.specs.Plain.{plainRemainder, plainRemainderCall, plainSealCall, plainSealPacket, plainCandidates, plainRepairCall, plainRepairOutput}
+use Rattle.demands.specs.Plain.{plainRemainder, plainRemainderCall, plainSealCall, plainSealPacket, plainRepairCall, plainRepairOutput}
 
 module _ (c : Crc) (i : c .init ≡ 0) (f : c .xorout ≡ 0) where
   zeros-fit : unfitValues (c .generator .degree) (c .init) (c .xorout) ≡ false
@@ -31,13 +31,9 @@ module _ (c : Crc) (i : c .init ≡ 0) (f : c .xorout ≡ 0) where
   unfolding sealed
   plain-seal s = (rw zeros-fit, rw (zeros-fit, same-remainder s))
 
--- the answer for any pattern named, the output, and the patterns that Several may name
-pub plain-repair : (r : Repair) → r .crc .init ≡ 0 → r .crc .xorout ≡ 0
-    → ((named : List ℕ) → repairCall r named ≡ plainRepairCall r named)
-    × (repairOutput r ≡ plainRepairOutput r)
-    × (candidates (r .crc) (r .check) (r .limit) (r .packet) ≡ plainCandidates r)
+pub plain-repair : (r : Repair) → r .crc .init ≡ 0 → r .crc .xorout ≡ 0 → (repairCall r ≡ plainRepairCall r) × (repairOutput r ≡ plainRepairOutput r)
 unfolding passesBoth candidates
 plain-repair r i f =
     let e = same-remainder (r .crc) i f (r .packet) in
     let z = zeros-fit (r .crc) i f in
-    (λ named. rw (z, e), rw (z, e), rw e)
+    (rw (z, e), rw (z, e))

@@ -46,8 +46,8 @@ module _ (r : Repair) where
       sift (λ ps. passes (r .check) (flips (r .packet) ps))
       (listing (r .crc .generator .degree) (r .crc .generator .coefficients) (bits (r .packet)) (r .limit) (plainRemainder (r .crc .generator) (r .packet)))
 
-  abbrev pub plainRepairCall : List ℕ → Outcome Said
-  plainRepairCall named = judge (without 11 (repairConditions r)) refused (accepted (pick plainPasses intact (settled plainCandidates named)))
+  abbrev pub plainRepairCall : Outcome Said
+  plainRepairCall = judge (without 11 (repairConditions r)) refused (accepted (pick plainPasses intact (settled plainCandidates)))
 
   abbrev pub plainRepairOutput : List ℕ
   plainRepairOutput = judge (without 11 (repairConditions r)) (λ _. r .output) (pick plainPasses (r .output) (mended plainCandidates (r .packet) (r .output)))

@@ -2,6 +2,7 @@
 use Prim.Native.Nat.{ℕ}
 use mathlib.Core.Path.{_≡_}
 use mathlib.Core.List.{List, [], _∷_}
+use lib.ListN.{take}
 use Rattle.base.specs.Outcome.{refused, accepted}
 use Rattle.poly.specs.Polynomial.{degree, rem}
 use Rattle.poly.specs.Generators.{generatorOf, five}
@@ -38,8 +39,7 @@ checked = 0x31 ∷ 0x32 ∷ 0x33 ∷ 0x34 ∷ 0x35 ∷ 0x36 ∷ 0x37 ∷ 0x38 �
 abbrev pub blank : List ℕ
 blank = 0 ∷ 0 ∷ 0 ∷ 0 ∷ 0 ∷ 0 ∷ 0 ∷ 0 ∷ []
 
--- bits are given as the digits of a number, packets as their bytes; a verdict is the same whatever pattern is named,
--- but for the pattern of Several, and Intact is at every N
+-- bits are given as the digits of a number, packets as their bytes; Intact is at every N
 pub record Worked : Type 0 where
   -- generator 9, bits 101110000: remainder 3
   pub row1 : rem (degree 9) 9 0b101110000 ≡ 3
@@ -62,13 +62,13 @@ pub record Worked : Type 0 where
   -- sum of 00 01 F2 03 F4 F5 F6 F7: DDF2h
   pub row10 : sumOf (0x00 ∷ 0x01 ∷ 0xF2 ∷ 0x03 ∷ 0xF4 ∷ 0xF5 ∷ 0xF6 ∷ 0xF7 ∷ []) ≡ 0xDDF2
   -- five, range [0,2), FF FF 05: Intact
-  pub row11 : (limit : ℕ) (named : List ℕ) → verdict (crcOf 53 0 0) firstTwo limit (0xFF ∷ 0xFF ∷ 0x05 ∷ []) named ≡ intact
+  pub row11 : (limit : ℕ) → verdict (crcOf 53 0 0) firstTwo limit (0xFF ∷ 0xFF ∷ 0x05 ∷ []) ≡ intact
   -- 7F FF 05, N 1: lists {8},{23}; Repaired {23}
   pub row12 : (packetList (crcOf 53 0 0) 1 (0x7F ∷ 0xFF ∷ 0x05 ∷ []) ≡ (8 ∷ []) ∷ (23 ∷ []) ∷ [])
-      × ((named : List ℕ) → verdict (crcOf 53 0 0) firstTwo 1 (0x7F ∷ 0xFF ∷ 0x05 ∷ []) named ≡ repaired (23 ∷ []))
-  -- FF FF 06, N 1; N 2: None; Several, 2
-  pub row13 : ((named : List ℕ) → verdict (crcOf 53 0 0) firstTwo 1 (0xFF ∷ 0xFF ∷ 0x06 ∷ []) named ≡ nothing)
-      × ((named : List ℕ) → verdict (crcOf 53 0 0) firstTwo 2 (0xFF ∷ 0xFF ∷ 0x06 ∷ []) named ≡ several 2 named)
+      × (verdict (crcOf 53 0 0) firstTwo 1 (0x7F ∷ 0xFF ∷ 0x05 ∷ []) ≡ repaired (23 ∷ []))
+  -- FF FF 06, N 1; N 2: None; Several, 2, {0,1}
+  pub row13 : (verdict (crcOf 53 0 0) firstTwo 1 (0xFF ∷ 0xFF ∷ 0x06 ∷ []) ≡ nothing)
+      × (verdict (crcOf 53 0 0) firstTwo 2 (0xFF ∷ 0xFF ∷ 0x06 ∷ []) ≡ several 2 (0 ∷ 1 ∷ []))
   -- five, one byte 00: I 31, F 0; I 0, F 31; both 31: remainders 25; 31; 6
   pub row14 : (remainder (crcOf 53 31 0) (0x00 ∷ []) ≡ 25) × (remainder (crcOf 53 0 31) (0x00 ∷ []) ≡ 31) × (remainder (crcOf 53 31 31) (0x00 ∷ []) ≡ 6)
   -- ccitt, the nine bytes of check values and two of zero: I FFFFh, F 0; both FFFFh; I 1D0Fh, F 0: 29B1h; D64Eh; E5CCh
@@ -82,11 +82,14 @@ pub record Worked : Type 0 where
   pub row18 : (makePacket (crcOf 0x11021 0 0) 0 (checkOf 0 6) 4 blank ≡ 0x3C ∷ 0x47 ∷ 0xD1 ∷ 0xAA ∷ 0xF2 ∷ 0x0D ∷ 0x52 ∷ 0x37 ∷ [])
       × (makeCall (crcOf 0x11021 0 0) 0 (checkOf 0 6) 4 blank ≡ accepted 0xA3D95FA8)
       × (makePacket (crcOf 0x11021 0xFFFF 0) 0 (checkOf 0 6) 4 blank ≡ 0x3C ∷ 0x47 ∷ 0xD1 ∷ 0xAA ∷ 0xF2 ∷ 0x0D ∷ 0x5C ∷ 0x27 ∷ [])
-  -- five, no second check, N 1: 7F FE 05; 7F FF 05; FF FD 05; FF FF 06: Intact; Several, 2; Repaired {9}; None
-  pub row19 : ((limit : ℕ) (named : List ℕ) → verdict (crcOf 53 0 0) noCheck limit (0x7F ∷ 0xFE ∷ 0x05 ∷ []) named ≡ intact)
-      × ((named : List ℕ) → verdict (crcOf 53 0 0) noCheck 1 (0x7F ∷ 0xFF ∷ 0x05 ∷ []) named ≡ several 2 named)
-      × ((named : List ℕ) → verdict (crcOf 53 0 0) noCheck 1 (0xFF ∷ 0xFD ∷ 0x05 ∷ []) named ≡ repaired (9 ∷ []))
-      × ((named : List ℕ) → verdict (crcOf 53 0 0) noCheck 1 (0xFF ∷ 0xFF ∷ 0x06 ∷ []) named ≡ nothing)
+  -- five, no second check, N 1: 7F FE 05; 7F FF 05; FF FD 05; FF FF 06: Intact; Several, 2, {8}; Repaired {9}; None
+  pub row19 : ((limit : ℕ) → verdict (crcOf 53 0 0) noCheck limit (0x7F ∷ 0xFE ∷ 0x05 ∷ []) ≡ intact)
+      × (verdict (crcOf 53 0 0) noCheck 1 (0x7F ∷ 0xFF ∷ 0x05 ∷ []) ≡ several 2 (8 ∷ []))
+      × (verdict (crcOf 53 0 0) noCheck 1 (0xFF ∷ 0xFD ∷ 0x05 ∷ []) ≡ repaired (9 ∷ []))
+      × (verdict (crcOf 53 0 0) noCheck 1 (0xFF ∷ 0xFF ∷ 0x06 ∷ []) ≡ nothing)
   -- five, FF FF 05 stamped with [2,2), field 2; [3,3), field 3; [1,0), field 0: refused by 10; 9; 9
   pub row20 : (stampCall 53 (checkOf 2 2) 2 (0xFF ∷ 0xFF ∷ 0x05 ∷ []) ≡ refused 10) × (stampCall 53 (checkOf 3 3) 3 (0xFF ∷ 0xFF ∷ 0x05 ∷ []) ≡ refused 9)
       × (stampCall 53 (checkOf 1 0) 0 (0xFF ∷ 0xFF ∷ 0x05 ∷ []) ≡ refused 9)
+  -- 9, range [0,2), 7F FF 02, N 2: lists {0,2} first; Several, 3, {0,23}
+  pub row21 : (take 1 (packetList (crcOf 9 0 0) 2 (0x7F ∷ 0xFF ∷ 0x02 ∷ [])) ≡ (0 ∷ 2 ∷ []) ∷ [])
+      × (verdict (crcOf 9 0 0) firstTwo 2 (0x7F ∷ 0xFF ∷ 0x02 ∷ []) ≡ several 3 (0 ∷ 23 ∷ []))

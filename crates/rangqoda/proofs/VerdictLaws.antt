@@ -1,25 +1,24 @@
--- Verdicts as bytes: what writing their parts one after the other comes to, and what can be read of them again.
+-- Verdicts as bytes: what writing their parts one after the other comes to, and what is to be published by them.
 use mathlib.Core.Path.{_≡_, sym, ap, ap₂, _∙_}
 use mathlib.Core.List.{List, [], _∷_, _++_, append-nil}
 use Prim.Native.Nat.{ℕ, suc, _+_, _-_, _/_, _%_, _<_, _≤_}
 use native.Mathlib.Omega.{arith}
-use lib.ListN.{length, take, drop, set, replicate, length-append, length-drop, length-set, drop-of-length-le}
+use lib.ListN.{length, take, drop, set, length-append, length-drop, length-set, drop-of-length-le}
 use lib.Seq.{set-split, take-at, drop-at, append-snoc, length-take-le, take-suc-set}
 use borrow.Rule.Slice.PartMut.{midOf, postOf, putMid, mid-len, same-len-mid}
 use borrow.Author.Tests.{eq-eqb}
 use Rattle.packet.specs.Packet.{bytes}
 use Rattle.packet.proofs.PacketLaws.{length-bytes}
 use Rattle.patterns.specs.Patterns.{mostPositions, positions}
-use Rattle.patterns.specs.Records.{recordOf, longestRecord, recordIn}
+use Rattle.patterns.specs.Records.{recordOf, longestRecord}
 use Rattle.patterns.proofs.PageLaws.{record-length}
-use Rattle.patterns.proofs.RecordLaws.{record-back}
 use Rattle.patterns.proofs.PositionLaws.{positions-most}
 use Rattle.repair.specs.declared.Verdict.{Verdict}
 use Rattle.repair.specs.declared.Verdict.the-variants.{Intact, Repaired, Several, None}
 use Rattle.repair.specs.Verdicts.{said}
 use Rattle.repair.specs.Calls.{handedBack}
 use Rattle.rangqoda.specs.Marks.{padded}
-use Rattle.rangqoda.specs.Verdicts.{verdictLength, laid, verdictBytes, patternIn, publishCode, published}
+use Rattle.rangqoda.specs.Verdicts.{verdictLength, laid, verdictBytes, publishCode, published}
 use Rattle.rangqoda.proofs.MarkByteLaws.{padded-length}
 
 -- a turn of the loop that writes a number from its last byte on
@@ -58,13 +57,7 @@ module _ (l : List ℕ) (x : ℕ) (full : length l ≡ verdictLength) where
         ap₂ (λ (s t : List ℕ). s ++ (zs ++ t)) front (drop-of-length-le (drop 9 b) n)
         ∙ ap (λ (t : List ℕ). x ∷ (ys ++ t)) (append-nil zs)
 
--- ---- what can be read of a verdict's bytes ----
-
-pub pattern-back : (kind count : ℕ) (ps : List ℕ) → patternIn (laid kind count ps) ≡ ps
-unfolding patternIn
-pattern-back kind count ps =
-    ap recordIn (drop-at (bytes 8 count) (padded (recordOf ps)) 8 (length-bytes 8 count))
-    ∙ record-back ps (replicate (longestRecord - length (recordOf ps)) 0)
+-- ---- what is to be published ----
 
 laid-length : (kind count : ℕ) (ps : List ℕ) → length ps ≤ mostPositions → length (laid kind count ps) ≡ verdictLength
 laid-length kind count ps h =

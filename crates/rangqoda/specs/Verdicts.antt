@@ -2,10 +2,10 @@
 use Prim.Native.Nat.{ℕ, _+_}
 use mathlib.Core.List.{List, [], _∷_, _++_}
 use lib.Dec.{eqb}
-use lib.ListN.{length, getD, drop}
+use lib.ListN.{length, getD}
 use Rattle.base.specs.Outcome.{pick}
 use Rattle.packet.specs.Packet.{bytes}
-use Rattle.patterns.specs.Records.{recordOf, longestRecord, recordIn}
+use Rattle.patterns.specs.Records.{recordOf, longestRecord}
 use Rattle.repair.specs.Verdicts.{Said, intact, repaired, several, nothing}
 use Rattle.rangqoda.specs.Marks.{padded}
 
@@ -23,10 +23,6 @@ verdictBytes intact = laid 0 0 []
 verdictBytes (repaired p) = laid 1 1 p
 verdictBytes (several n p) = laid 2 n p
 verdictBytes nothing = laid 3 0 []
-
--- the pattern whose record stands in a verdict's bytes
-unfoldable pub patternIn : List ℕ → List ℕ
-patternIn s = recordIn (drop 9 s)
 
 -- what to publish from, by a verdict's bytes: 0 for the received packet, 1 for the copy, 2 for nothing
 unfoldable pub publishCode : List ℕ → ℕ

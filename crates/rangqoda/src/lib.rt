@@ -29,11 +29,11 @@ ghost use Rattle.patterns.specs.Records.{recordOf, longestRecord, positionsIn};
 ghost use Rattle.pages.specs.Conditions.{pageRequest};
 ghost use Rattle.pages.specs.Calls.{pageCall, pageLeft};
 ghost use Rattle.repair.specs.Verdicts.{said};
-ghost use Rattle.repair.specs.Calls.{repairCall, NamesWell};
+ghost use Rattle.repair.specs.Calls.{repairCall};
 ghost use Rattle.rangqoda.specs.Codes.{code, changed};
 ghost use Rattle.rangqoda.specs.Marks.{placeOfBytes, malformed, padded, markBytes};
 ghost use Rattle.rangqoda.specs.Pages.{markAfter, usedAfter, writtenAfter};
-ghost use Rattle.rangqoda.specs.Verdicts.{verdictLength, laid, verdictBytes, patternIn, publishCode};
+ghost use Rattle.rangqoda.specs.Verdicts.{verdictLength, laid, verdictBytes, publishCode};
 ghost use Rattle.rangqoda.specs.Repairs.{handed, verdictAfter, outputAfter};
 
 // A mark's bytes: how many, and the first of them where it has no pattern.
@@ -346,9 +346,8 @@ pub extern "C" fn rangqoda_repair(
     output: &mut [u8],
     verdict: &mut [u8],
 ) -> u32
-    ensures answer { λ r. ⌜ r ≡ code (repairCall (handed (crcOf generator init xorout) (checkOf start end) limit (now (step .entry)) (now (first .entry)) (now (packet .entry)) (now (output .entry)) (now (verdict .entry))) (patternIn (now (verdict .exit)))) ⌝ }
-    ensures verdict { λ _. ⌜ now (verdict .exit) ≡ verdictAfter (now (verdict .entry)) (repairCall (handed (crcOf generator init xorout) (checkOf start end) limit (now (step .entry)) (now (first .entry)) (now (packet .entry)) (now (output .entry)) (now (verdict .entry))) (patternIn (now (verdict .exit)))) ⌝ }
-    ensures names { λ _. ⌜ NamesWell (handed (crcOf generator init xorout) (checkOf start end) limit (now (step .entry)) (now (first .entry)) (now (packet .entry)) (now (output .entry)) (now (verdict .entry))) (repairCall (handed (crcOf generator init xorout) (checkOf start end) limit (now (step .entry)) (now (first .entry)) (now (packet .entry)) (now (output .entry)) (now (verdict .entry))) (patternIn (now (verdict .exit)))) ⌝ }
+    ensures answer { λ r. ⌜ r ≡ code (repairCall (handed (crcOf generator init xorout) (checkOf start end) limit (now (step .entry)) (now (first .entry)) (now (packet .entry)) (now (output .entry)) (now (verdict .entry)))) ⌝ }
+    ensures verdict { λ _. ⌜ now (verdict .exit) ≡ verdictAfter (now (verdict .entry)) (repairCall (handed (crcOf generator init xorout) (checkOf start end) limit (now (step .entry)) (now (first .entry)) (now (packet .entry)) (now (output .entry)) (now (verdict .entry)))) ⌝ }
     ensures output { λ _. ⌜ now (output .exit) ≡ outputAfter (handed (crcOf generator init xorout) (checkOf start end) limit (now (step .entry)) (now (first .entry)) (now (packet .entry)) (now (output .entry)) (now (verdict .entry))) (now (output .entry)) (now (verdict .entry)) ⌝ }
 {
     let room = room_for(verdict.len(), output.len());

@@ -46,34 +46,34 @@ module _ (c : Crc) (k : Check) (limit : ℕ) (s : List ℕ) (fit : Fit (c .gener
       }
 
   -- none is not said, and a repair is t
-  abbrev Sent : List ℕ → List ℕ → List ℕ → Type 0
-  Sent t named out =
-      (verdict c k limit s named ≡ nothing → ⊥)
-      × ((p : List ℕ) → verdict c k limit s named ≡ repaired p → (flips s p ≡ t) × (outputFor c k limit s out ≡ t))
+  abbrev Sent : List ℕ → List ℕ → Type 0
+  Sent t out =
+      (verdict c k limit s ≡ nothing → ⊥)
+      × ((p : List ℕ) → verdict c k limit s ≡ repaired p → (flips s p ≡ t) × (outputFor c k limit s out ≡ t))
 
   -- it is so where a set that makes t leads to a passing packet
-  leads-sent : (t ps : List ℕ) → Leads c k limit s ps → flips s ps ≡ t → (named out : List ℕ) → Sent t named out
-  leads-sent t ps l made named out = (
-    λ h. verdict-nothing c k limit s fit bs named .0 h .1 ps l,
+  leads-sent : (t ps : List ℕ) → Leads c k limit s ps → flips s ps ≡ t → (out : List ℕ) → Sent t out
+  leads-sent t ps l made out = (
+    λ h. verdict-nothing c k limit s fit bs .0 h .1 ps l,
     λ p h.
-        let same : ps ≡ p = verdict-repaired c k limit s fit bs named p .0 h .2 ps l in
+        let same : ps ≡ p = verdict-repaired c k limit s fit bs p .0 h .2 ps l in
         let sent : flips s p ≡ t = ap (flips s) (sym same) ∙ made in
-        (sent, output-repaired named c k limit s p out h ∙ sent),
+        (sent, output-repaired c k limit s p out h ∙ sent),
   )
 
   -- the sent-packet theorem
-  pub sent-packet : (t : List ℕ) → Bytes t → length s ≡ length t → passesBoth c k t ≡ true → length (difference s t) ≤ limit → (named out : List ℕ)
-      → (verdict c k limit s named ≡ nothing → ⊥)
-      × ((p : List ℕ) → verdict c k limit s named ≡ repaired p → (flips s p ≡ t) × (outputFor c k limit s out ≡ t))
+  pub sent-packet : (t : List ℕ) → Bytes t → length s ≡ length t → passesBoth c k t ≡ true → length (difference s t) ≤ limit → (out : List ℕ)
+      → (verdict c k limit s ≡ nothing → ⊥)
+      × ((p : List ℕ) → verdict c k limit s ≡ repaired p → (flips s p ≡ t) × (outputFor c k limit s out ≡ t))
   sent-packet t bt same pass few =
       let made = flips-difference s t bs bt same in
       leads-sent t (difference s t) (set-leads t (difference s t) (difference-ascending s t) few made pass) made
 
   -- the same, where the received packet is the sent one with a set of at most so many bits flipped, whichever they are
   pub sent-flipped : (t ps : List ℕ) → Bytes t → Ascending (bits t) 0 ps → length ps ≤ limit → s ≡ flips t ps → passesBoth c k t ≡ true
-      → (named out : List ℕ)
-      → (verdict c k limit s named ≡ nothing → ⊥)
-      × ((p : List ℕ) → verdict c k limit s named ≡ repaired p → (flips s p ≡ t) × (outputFor c k limit s out ≡ t))
+      → (out : List ℕ)
+      → (verdict c k limit s ≡ nothing → ⊥)
+      × ((p : List ℕ) → verdict c k limit s ≡ repaired p → (flips s p ≡ t) × (outputFor c k limit s out ≡ t))
   sent-flipped t ps bt h few received pass =
       let made : flips s ps ≡ t = ap (λ (l : List ℕ). flips l ps) received ∙ flips-twice t ps bt h in
       let long : length s ≡ length t = ap length received ∙ flips-length t ps in

@@ -19,7 +19,7 @@ use Rattle.search.specs.declared.Found.{Found}
 use Rattle.search.specs.declared.Found.the-variants.{At, Nothing}
 use Rattle.cursor.specs.Cursors.{FoundFits, aheadOf}
 use Rattle.cursor.proofs.AheadLaws.{told-ahead, told-ahead-of}
-use Rattle.repair.specs.Tallies.{Tallied, added, earliest}
+use Rattle.repair.specs.Tallies.{Tallied, added}
 use Rattle.repair.specs.Verdicts.{nothing, repaired, several, settled}
 use Rattle.repair.specs.declared.Tally.{Tally}
 
@@ -111,17 +111,17 @@ module _ {P : List ℕ → Bool} {l m : ℕ} {xs rest : List (List ℕ)} {pos : 
 
 -- ---- the verdict by a tally
 
-pub settled-none : {t : Tally} → t .count ≡ 0 → (kept : List (List ℕ)) → Tallied kept t → nothing ≡ settled kept (earliest kept)
+pub settled-none : {t : Tally} → t .count ≡ 0 → (kept : List (List ℕ)) → Tallied kept t → nothing ≡ settled kept
 settled-none z [] h = refl
 settled-none z (k ∷ kept) h = absurd (omega (arith, h .number))
 
-pub settled-one : {t : Tally} → t .count ≡ 1 → (kept : List (List ℕ)) → Tallied kept t → repaired (positions (t .chosen)) ≡ settled kept (earliest kept)
+pub settled-one : {t : Tally} → t .count ≡ 1 → (kept : List (List ℕ)) → Tallied kept t → repaired (positions (t .chosen)) ≡ settled kept
 settled-one z [] h = absurd (omega (arith, h .number))
 settled-one z (k ∷ []) h = ap repaired (h .first)
 settled-one z (k ∷ j ∷ kept) h = absurd (omega (arith, h .number))
 
 pub settled-more : {t : Tally} → (t .count ≡ 0 → ⊥) → (t .count ≡ 1 → ⊥) → (kept : List (List ℕ)) → Tallied kept t
-    → several (t .count) (positions (t .chosen)) ≡ settled kept (earliest kept)
+    → several (t .count) (positions (t .chosen)) ≡ settled kept
 settled-more z o [] h = absurd (z (h .number))
 settled-more z o (k ∷ []) h = absurd (o (h .number))
 settled-more z o (k ∷ j ∷ kept) h = ap₂ several (h .number) (h .first)

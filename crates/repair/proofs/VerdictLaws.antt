@@ -1,15 +1,15 @@
 -- The verdict in the words of docs/RULES.md. For a listed pattern the flipped packet's remainder is 0, so that a passing range
 -- is as much as passing both checks; and since the list ascends, one member is one set and several are several sets.
-use mathlib.Core.Path.{_≡_, refl, sym, ap, _∙_}
+use mathlib.Core.Path.{_≡_, refl, sym, ap, subst, _∙_}
 use mathlib.Core.Bool.{Bool, true, false, _&&_, true≢false}
 use mathlib.Core.Logic.{_↔_}
 use mathlib.Core.List.{List, [], _∷_}
-use Prim.Native.Nat.{ℕ, _≤_}
+use Prim.Native.Nat.{ℕ, _<_, _≤_}
 use native.Mathlib.Omega.{arith}
 use borrow.Author.Tests.{eq-eqb}
 use lib.Bits.{bitXor, xor-self}
 use lib.ListN.{length}
-use Rattle.base.specs.Lists.{In, here, there, Ascending}
+use Rattle.base.specs.Lists.{In, here, there, All, Ascending}
 use Rattle.base.proofs.Cases.{by-test}
 use Rattle.base.proofs.ListLaws.{in-nothing, ascending-all}
 use Rattle.poly.specs.Fit.{Fit}
@@ -23,9 +23,9 @@ use Rattle.patterns.specs.StrictOrder.{Sorted}
 use Rattle.patterns.specs.Listing.{syndrome}
 use Rattle.patterns.proofs.OrderLaws.{before-strict-total}
 use Rattle.patterns.proofs.SiftLaws.{sift-in, in-sift, sift-same}
-use Rattle.patterns.proofs.SortedLaws.{sorted-head, sorted-sift}
+use Rattle.patterns.proofs.SortedLaws.{sorted-head, sorted-sift, never-both}
 use Rattle.patterns.proofs.ListingLaws.{listed-iff, listing-sorted}
-use Rattle.repair.specs.Verdicts.{passesBoth, packetList, candidates, Said, intact, repaired, several, nothing, settled, verdict, mended, outputFor, Leads, leading}
+use Rattle.repair.specs.Verdicts.{passesBoth, packetList, candidates, Said, intact, repaired, several, nothing, settled, verdict, mended, outputFor, Leads, leading, Earliest}
 
 -- ---- one, none or several members of an ascending list ----
 
@@ -37,9 +37,11 @@ only-member : {p q : List ℕ} → In q (p ∷ []) → q ≡ p
 only-member (here d) = d
 only-member (there i) = absurd (in-nothing i)
 
+before-differs : {p q : List ℕ} → before p q ≡ true → p ≡ q → ⊥
+before-differs {q = q} h d = true≢false (sym h ∙ ap (λ (r : List ℕ). before r q) d ∙ before-strict-total .irreflexive q)
+
 first-two-differ : {x y : List ℕ} {ys : List (List ℕ)} → Sorted before (x ∷ y ∷ ys) → x ≡ y → ⊥
-first-two-differ {y = y} sorted d =
-    true≢false (sym (sorted-head sorted y (here refl)) ∙ ap (λ (q : List ℕ). before q y) d ∙ before-strict-total .irreflexive y)
+first-two-differ {y = y} sorted = before-differs (sorted-head sorted y (here refl))
 
 only-one : {p : List ℕ} {xs : List (List ℕ)} → Sorted before xs → In p xs → ((q : List ℕ) → In q xs → q ≡ p) → xs ≡ p ∷ []
 only-one {xs = []} sorted h only = absurd (in-nothing h)
@@ -56,62 +58,92 @@ members-two [] i j other = absurd (in-nothing i)
 members-two (x ∷ []) i j other = absurd (other (only-member i ∙ sym (only-member j)))
 members-two (x ∷ y ∷ ys) i j other = omega arith
 
+-- ---- the earliest ----
+
+pub earliest-same : {P Q : List ℕ → Type 0} → ((ps : List ℕ) → P ps ↔ Q ps) → (ps : List ℕ) → Earliest P ps ↔ Earliest Q ps
+earliest-same same ps = (
+  λ e. record { meets = same ps .0 (e .meets); ahead = λ qs h. e .ahead qs (same qs .1 h) },
+  λ e. record { meets = same ps .1 (e .meets); ahead = λ qs h. e .ahead qs (same qs .0 h) },
+)
+
+-- of an ascending list it is the first member, and no other
+first-earliest : {x : List ℕ} {xs : List (List ℕ)} → Sorted before (x ∷ xs) → Earliest (λ ps. In ps (x ∷ xs)) x
+first-earliest sorted =
+    record { meets = here refl; ahead = λ qs i other. elim i [ here d ↦ absurd (other d) | there j ↦ sorted-head sorted qs j ] }
+
+earliest-first : {x p : List ℕ} {xs : List (List ℕ)} → Sorted before (x ∷ xs) → Earliest (λ ps. In ps (x ∷ xs)) p → x ≡ p
+earliest-first {x} {p} sorted e =
+    elim (e .meets) [
+      | here d ↦ sym d
+      | there i ↦ let h = sorted-head sorted p i in absurd (never-both before-strict-total x p h (e .ahead x (here refl) (before-differs h)))
+    ]
+
 -- ---- the verdict by the candidates ----
 
-module _ (named : List ℕ) where
-  never-intact : (xs : List (List ℕ)) → settled xs named ≡ intact → ⊥
-  never-intact [] h = let z : _≡_ {A = ℕ} 0 1 = cc in omega arith
-  never-intact (x ∷ []) h = let z : _≡_ {A = ℕ} 0 1 = cc in omega arith
-  never-intact (x ∷ y ∷ ys) h = let z : _≡_ {A = ℕ} 0 1 = cc in omega arith
+pub clash : {A : Type 0} → _≡_ {A = ℕ} 0 1 → A
+clash e = absurd (omega arith)
 
-  nothing-none : (xs : List (List ℕ)) → settled xs named ≡ nothing → xs ≡ []
-  nothing-none [] h = refl
-  nothing-none (x ∷ []) h = absurd (let z : _≡_ {A = ℕ} 0 1 = cc in omega arith)
-  nothing-none (x ∷ y ∷ ys) h = absurd (let z : _≡_ {A = ℕ} 0 1 = cc in omega arith)
+never-intact : (xs : List (List ℕ)) → settled xs ≡ intact → ⊥
+never-intact [] h = clash cc
+never-intact (x ∷ []) h = clash cc
+never-intact (x ∷ y ∷ ys) h = clash cc
 
-  repaired-one : (xs : List (List ℕ)) (p : List ℕ) → settled xs named ≡ repaired p → xs ≡ p ∷ []
-  repaired-one [] p h = absurd (let z : _≡_ {A = ℕ} 0 1 = cc in omega arith)
-  repaired-one (x ∷ []) p h = let e : x ≡ p = cc in ap (λ (q : List ℕ). q ∷ []) e
-  repaired-one (x ∷ y ∷ ys) p h = absurd (let z : _≡_ {A = ℕ} 0 1 = cc in omega arith)
+nothing-none : (xs : List (List ℕ)) → settled xs ≡ nothing → xs ≡ []
+nothing-none [] h = refl
+nothing-none (x ∷ []) h = clash cc
+nothing-none (x ∷ y ∷ ys) h = clash cc
 
-  several-more : (xs : List (List ℕ)) (k : ℕ) (q : List ℕ) → settled xs named ≡ several k q → (2 ≤ length xs) × (k ≡ length xs) × (q ≡ named)
-  several-more [] k q h = absurd (let z : _≡_ {A = ℕ} 0 1 = cc in omega arith)
-  several-more (x ∷ []) k q h = absurd (let z : _≡_ {A = ℕ} 0 1 = cc in omega arith)
-  several-more (x ∷ y ∷ ys) k q h = (omega arith, cc, cc)
+repaired-one : (xs : List (List ℕ)) (p : List ℕ) → settled xs ≡ repaired p → xs ≡ p ∷ []
+repaired-one [] p h = clash cc
+repaired-one (x ∷ []) p h = let e : x ≡ p = cc in ap (λ (q : List ℕ). q ∷ []) e
+repaired-one (x ∷ y ∷ ys) p h = clash cc
 
-  more-several : (xs : List (List ℕ)) → 2 ≤ length xs → settled xs named ≡ several (length xs) named
-  more-several [] h = absurd (omega arith)
-  more-several (x ∷ []) h = absurd (omega arith)
-  more-several (x ∷ y ∷ ys) h = refl
+-- several is said of two or more, with their number and the earliest
+several-more : (xs : List (List ℕ)) → Sorted before xs → (n : ℕ) (q : List ℕ)
+    → settled xs ≡ several n q ↔ ((2 ≤ length xs) × (n ≡ length xs) × Earliest (λ ps. In ps xs) q)
+several-more [] sorted n q = (λ h. clash cc, λ h. absurd (omega (arith, h .0)))
+several-more (x ∷ []) sorted n q = (λ h. clash cc, λ h. absurd (omega (arith, h .0)))
+several-more (x ∷ y ∷ ys) sorted n q = (
+  λ h. let e : x ≡ q = cc in (omega arith, cc, subst (Earliest (λ ps. In ps (x ∷ y ∷ ys))) e (first-earliest sorted)),
+  λ h. let d = h .1 in let e = earliest-first sorted (h .2) in cc,
+)
 
+module _ (c : Crc) (k : Check) (limit : ℕ) (s : List ℕ) where
   -- what is said of a packet that does not pass, and what is said at all
-  unpassed : (c : Crc) (k : Check) (limit : ℕ) (s : List ℕ) → passesBoth c k s ≡ false → verdict c k limit s named ≡ settled (candidates c k limit s) named
-  unpassed c k limit s h = rw h
+  unpassed : passesBoth c k s ≡ false → verdict c k limit s ≡ settled (candidates c k limit s)
+  unpassed h = rw h
 
-  unless-intact : (c : Crc) (k : Check) (limit : ℕ) (s : List ℕ) (v : Said) → (v ≡ intact → ⊥) → verdict c k limit s named ≡ v
-      → (passesBoth c k s ≡ false) × (settled (candidates c k limit s) named ≡ v)
-  unless-intact c k limit s v other h =
-      by-test (passesBoth c k s) (λ t. absurd (other (sym (rw t at h)))) (λ t. (t, rw t at h))
+  unless-intact : (v : Said) → (v ≡ intact → ⊥) → verdict c k limit s ≡ v → (passesBoth c k s ≡ false) × (settled (candidates c k limit s) ≡ v)
+  unless-intact v other h = by-test (passesBoth c k s) (λ t. absurd (other (sym (rw t at h)))) (λ t. (t, rw t at h))
 
   -- intact exactly when the packet passes both checks
-  pub verdict-intact : (c : Crc) (k : Check) (limit : ℕ) (s : List ℕ) → verdict c k limit s named ≡ intact ↔ (passesBoth c k s ≡ true)
-  verdict-intact c k limit s = (
+  pub verdict-intact : verdict c k limit s ≡ intact ↔ (passesBoth c k s ≡ true)
+  verdict-intact = (
     λ h. by-test (passesBoth c k s) (λ t. t) (λ t. absurd (never-intact (candidates c k limit s) (rw t at h))),
     λ h. rw h,
   )
 
-  -- the output is the flipped packet where the verdict is a repair, and stays as it was where it is none
-  pub output-repaired : (c : Crc) (k : Check) (limit : ℕ) (s p out : List ℕ) → verdict c k limit s named ≡ repaired p → outputFor c k limit s out ≡ flips s p
-  output-repaired c k limit s p out h =
-      let r = unless-intact c k limit s (repaired p) (λ k. let z : _≡_ {A = ℕ} 0 1 = cc in omega arith) h in
-      rw (r .0, repaired-one (candidates c k limit s) p (r .1))
+  -- a repair is by the one candidate, whose positions are positions of the packet
+  one-candidate : (p : List ℕ) → verdict c k limit s ≡ repaired p → (passesBoth c k s ≡ false) × (candidates c k limit s ≡ p ∷ [])
+  one-candidate p h =
+      let r = unless-intact (repaired p) (λ e. clash cc) h in
+      (r .0, repaired-one (candidates c k limit s) p (r .1))
 
-  pub output-unchanged : (c : Crc) (k : Check) (limit : ℕ) (s out : List ℕ) → ((p : List ℕ) → verdict c k limit s named ≡ repaired p → ⊥) → outputFor c k limit s out ≡ out
-  output-unchanged c k limit s out other =
-      by-test (passesBoth c k s) (λ t. rw t)
-      (λ t. rw t (unmended (candidates c k limit s) (λ p h. other p (unpassed c k limit s t ∙ h))))
+  pub repaired-within : (p : List ℕ) → verdict c k limit s ≡ repaired p → All (λ (q : ℕ). q < bits s) p
+  unfolding candidates
+  repaired-within p h =
+      let i : In p (candidates c k limit s) = rw (one-candidate p h .1) (here refl) in
+      ascending-all (listed-iff (c .generator .degree) (c .generator .coefficients) (bits s) limit (remainder c s) p .0 (sift-in (λ ps. passes k (flips s ps)) (packetList c limit s) i .0) .0)
+
+  -- the output is the flipped packet where the verdict is a repair, and stays as it was where it is none
+  pub output-repaired : (p out : List ℕ) → verdict c k limit s ≡ repaired p → outputFor c k limit s out ≡ flips s p
+  output-repaired p out h = let r = one-candidate p h in rw (r .0, r .1)
+
+  pub output-unchanged : (out : List ℕ) → ((p : List ℕ) → verdict c k limit s ≡ repaired p → ⊥) → outputFor c k limit s out ≡ out
+  output-unchanged out other =
+      by-test (passesBoth c k s) (λ t. rw t) (λ t. rw t (unmended (candidates c k limit s) (λ p h. other p (unpassed t ∙ h))))
     where
-      unmended : (xs : List (List ℕ)) → ((p : List ℕ) → settled xs named ≡ repaired p → ⊥) → mended xs s out ≡ out
+      unmended : (xs : List (List ℕ)) → ((p : List ℕ) → settled xs ≡ repaired p → ⊥) → mended xs s out ≡ out
       unmended [] f = refl
       unmended (x ∷ []) f = absurd (f x refl)
       unmended (x ∷ y ∷ ys) f = refl
@@ -163,42 +195,43 @@ module _ (c : Crc) (k : Check) (limit : ℕ) (s : List ℕ) (fit : Fit (c .gener
 
   -- ---- the verdict on a packet that does not pass ----
 
-  module _ (named : List ℕ) where
-    says : passesBoth c k s ≡ false → {xs : List (List ℕ)} → leading c k limit s ≡ xs → verdict c k limit s named ≡ settled xs named
-    says h d = unpassed named c k limit s h ∙ ap (λ (xs : List (List ℕ)). settled xs named) (candidates-leading ∙ d)
+  says : passesBoth c k s ≡ false → {xs : List (List ℕ)} → leading c k limit s ≡ xs → verdict c k limit s ≡ settled xs
+  says h d = unpassed c k limit s h ∙ ap settled (candidates-leading ∙ d)
 
-    said-of : (v : Said) → (v ≡ intact → ⊥) → verdict c k limit s named ≡ v → (passesBoth c k s ≡ false) × (settled (leading c k limit s) named ≡ v)
-    said-of v other h = rw candidates-leading at (unless-intact named c k limit s v other h)
+  said-of : (v : Said) → (v ≡ intact → ⊥) → verdict c k limit s ≡ v → (passesBoth c k s ≡ false) × (settled (leading c k limit s) ≡ v)
+  said-of v other h = rw candidates-leading at (unless-intact c k limit s v other h)
 
-    -- none exactly when no listed set leads to a passing packet
-    pub verdict-nothing : verdict c k limit s named ≡ nothing ↔ ((passesBoth c k s ≡ false) × ((ps : List ℕ) → Leads c k limit s ps → ⊥))
-    verdict-nothing = (
-      λ h.
-          let r = said-of nothing (λ k. let z : _≡_ {A = ℕ} 0 1 = cc in omega arith) h in
-          (r .0, λ ps l. in-nothing (rw (nothing-none named (leading c k limit s) (r .1)) at (in-leading c k limit s ps .1 l))),
-      λ h. says (h .0) (no-member (leading c k limit s) (λ ps i. h .1 ps (in-leading c k limit s ps .0 i))),
-    )
+  -- none exactly when no listed set leads to a passing packet
+  pub verdict-nothing : verdict c k limit s ≡ nothing ↔ ((passesBoth c k s ≡ false) × ((ps : List ℕ) → Leads c k limit s ps → ⊥))
+  verdict-nothing = (
+    λ h.
+        let r = said-of nothing (λ e. clash cc) h in
+        (r .0, λ ps l. in-nothing (rw (nothing-none (leading c k limit s) (r .1)) at (in-leading c k limit s ps .1 l))),
+    λ h. says (h .0) (no-member (leading c k limit s) (λ ps i. h .1 ps (in-leading c k limit s ps .0 i))),
+  )
 
-    -- repaired exactly when just one does, and with that one
-    pub verdict-repaired : (p : List ℕ) → verdict c k limit s named ≡ repaired p
-        ↔ ((passesBoth c k s ≡ false) × Leads c k limit s p × ((q : List ℕ) → Leads c k limit s q → q ≡ p))
-    verdict-repaired p = (
-      λ h.
-          let r = said-of (repaired p) (λ k. let z : _≡_ {A = ℕ} 0 1 = cc in omega arith) h in
-          let one = repaired-one named (leading c k limit s) p (r .1) in
-          (r .0, in-leading c k limit s p .0 (rw one (here refl)), λ q l. only-member (rw one at (in-leading c k limit s q .1 l))),
-      λ h.
-          says (h .0)
-          (only-one (leading-sorted c k limit s) (in-leading c k limit s p .1 (h .1)) (λ q i. h .2 q (in-leading c k limit s q .0 i))),
-    )
+  -- repaired exactly when just one does, and with that one
+  pub verdict-repaired : (p : List ℕ) → verdict c k limit s ≡ repaired p
+      ↔ ((passesBoth c k s ≡ false) × Leads c k limit s p × ((q : List ℕ) → Leads c k limit s q → q ≡ p))
+  verdict-repaired p = (
+    λ h.
+        let r = said-of (repaired p) (λ e. clash cc) h in
+        let one = repaired-one (leading c k limit s) p (r .1) in
+        (r .0, in-leading c k limit s p .0 (rw one (here refl)), λ q l. only-member (rw one at (in-leading c k limit s q .1 l))),
+    λ h.
+        says (h .0)
+        (only-one (leading-sorted c k limit s) (in-leading c k limit s p .1 (h .1)) (λ q i. h .2 q (in-leading c k limit s q .0 i))),
+  )
 
-    -- several exactly when more than one does, with their number, and with the pattern that it names
-    pub verdict-several : (n : ℕ) (q : List ℕ) → verdict c k limit s named ≡ several n q
-        ↔ ((passesBoth c k s ≡ false) × (2 ≤ length (leading c k limit s)) × (n ≡ length (leading c k limit s)) × (q ≡ named))
-    verdict-several n q = (
-      λ h.
-          let r = said-of (several n q) (λ j. let z : _≡_ {A = ℕ} 0 1 = cc in omega arith) h in
-          let m = several-more named (leading c k limit s) n q (r .1) in
-          (r .0, m .0, m .1, m .2),
-      λ h. says (h .0) refl ∙ more-several named (leading c k limit s) (h .1) ∙ (let d = h .2 in let e = h .3 in cc),
-    )
+  -- several exactly when more than one does, with their number and the earliest of them
+  pub verdict-several : (n : ℕ) (q : List ℕ) → verdict c k limit s ≡ several n q
+      ↔ ((passesBoth c k s ≡ false) × (2 ≤ length (leading c k limit s)) × (n ≡ length (leading c k limit s)) × Earliest (Leads c k limit s) q)
+  verdict-several n q =
+      let more = several-more (leading c k limit s) (leading-sorted c k limit s) n q in
+      let leads = earliest-same (in-leading c k limit s) q in (
+        λ h.
+            let r = said-of (several n q) (λ e. clash cc) h in
+            let m = more .0 (r .1) in
+            (r .0, m .0, m .1, leads .0 (m .2)),
+        λ h. says (h .0) refl ∙ more .1 (h .1, h .2, leads .1 (h .3)),
+      )

@@ -6,7 +6,6 @@ use mathlib.Core.List.{List, [], _∷_}
 use denote.Ref.{RefT}
 use lib.Dec.{eqb}
 use lib.ListN.{length}
-use Rattle.base.specs.Lists.{In}
 use Rattle.base.specs.Outcome.{Outcome, refused, accepted, Condition, when, judge}
 use Rattle.base.specs.Refusals.{number}
 use Rattle.poly.specs.Generators.{unfit}
@@ -16,7 +15,7 @@ use Rattle.tables.specs.Tables.{unfitTables, wrongTables}
 use Rattle.checksum.specs.Checksum.{unfitRange}
 use Rattle.checksum.specs.declared.Check.{Check}
 use Rattle.patterns.specs.Listing.{unfitLimit}
-use Rattle.repair.specs.Verdicts.{Said, intact, repaired, several, nothing, said, verdict, candidates, outputFor}
+use Rattle.repair.specs.Verdicts.{Said, intact, repaired, several, nothing, said, verdict, outputFor}
 use Rattle.repair.specs.declared.RepairAnswer.{RepairAnswer}
 use Rattle.repair.specs.declared.RepairAnswer.the-variants.{Decided, Refused}
 
@@ -64,26 +63,9 @@ abbrev pub repairAnswer : RepairAnswer → Outcome Said
 repairAnswer (Decided v) = accepted (said v)
 repairAnswer (Refused q) = refused (number q)
 
--- the pattern that an answer of Several names
-abbrev pub namedIn : Outcome Said → List ℕ
-namedIn (refused k) = []
-namedIn (accepted intact) = []
-namedIn (accepted (repaired p)) = []
-namedIn (accepted (several n p)) = p
-namedIn (accepted nothing) = []
-
--- the answer, given the pattern that it names where several pass
-abbrev pub repairCall : Repair → List ℕ → Outcome Said
-repairCall r named =
-    judge (repairConditions r) refused (accepted (verdict (r .crc) (r .check) (r .limit) (r .packet) named))
-
--- what holds of the pattern that an answer of Several names: it is listed, and it passes
-abbrev pub NamesWell : Repair → Outcome Said → Type 0
-NamesWell r (refused k) = Unit {0}
-NamesWell r (accepted intact) = Unit {0}
-NamesWell r (accepted (repaired p)) = Unit {0}
-NamesWell r (accepted (several n p)) = In p (candidates (r .crc) (r .check) (r .limit) (r .packet))
-NamesWell r (accepted nothing) = Unit {0}
+-- the answer
+abbrev pub repairCall : Repair → Outcome Said
+repairCall r = judge (repairConditions r) refused (accepted (verdict (r .crc) (r .check) (r .limit) (r .packet)))
 
 -- the output after the call
 abbrev pub repairOutput : Repair → List ℕ

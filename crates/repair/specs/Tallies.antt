@@ -10,17 +10,12 @@ use Rattle.packet.specs.declared.Crc.{Crc}
 use Rattle.checksum.specs.declared.Check.{Check}
 use Rattle.tables.specs.Tables.{stepTable, firstTable}
 use Rattle.patterns.specs.Patterns.{mostPositions, positions}
-use Rattle.repair.specs.Verdicts.{Said, candidates, verdict}
 use Rattle.repair.specs.declared.Tally.{Tally}
 
 -- the first of some patterns, and the empty one where there is none
 abbrev pub earliest : List (List ℕ) → List ℕ
 earliest [] = []
 earliest (p ∷ ps) = p
-
--- the verdict, which names the earliest of several
-abbrev pub firstVerdict : Crc → Check → ℕ → List ℕ → Said
-firstVerdict c k limit s = verdict c k limit s (earliest (candidates c k limit s))
 
 -- a tally of some patterns: how many there are, and the first
 pub record Tallied (kept : List (List ℕ)) (t : Tally) : Type 0 where

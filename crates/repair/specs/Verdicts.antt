@@ -12,6 +12,7 @@ use Rattle.packet.specs.declared.Crc.{Crc}
 use Rattle.checksum.specs.Checksum.{passes}
 use Rattle.checksum.specs.declared.Check.{Check}
 use Rattle.patterns.specs.Patterns.{positions}
+use Rattle.patterns.specs.Order.{before}
 use Rattle.patterns.specs.Listing.{listing, sift}
 use Rattle.repair.specs.declared.Verdict.{Verdict}
 use Rattle.repair.specs.declared.Verdict.the-variants.{Intact, Repaired, Several, None}
@@ -41,15 +42,15 @@ said (Repaired p) = repaired (positions p)
 said (Several n p) = several n (positions p)
 said None = nothing
 
--- the verdict by the patterns that pass; which of several is named is left open
-abbrev pub settled : List (List ℕ) → List ℕ → Said
-settled [] named = nothing
-settled (p ∷ []) named = repaired p
-settled (p ∷ q ∷ ps) named = several (length (p ∷ q ∷ ps)) named
+-- the verdict by the patterns that pass: of several it has their number and the first
+abbrev pub settled : List (List ℕ) → Said
+settled [] = nothing
+settled (p ∷ []) = repaired p
+settled (p ∷ q ∷ ps) = several (length (p ∷ q ∷ ps)) p
 
 -- the verdict on a packet
-abbrev pub verdict : Crc → Check → ℕ → List ℕ → List ℕ → Said
-verdict c k limit s named = pick (passesBoth c k s) intact (settled (candidates c k limit s) named)
+abbrev pub verdict : Crc → Check → ℕ → List ℕ → Said
+verdict c k limit s = pick (passesBoth c k s) intact (settled (candidates c k limit s))
 
 -- the flipped packet where one pattern passes, and else what was there
 abbrev pub mended : List (List ℕ) → List ℕ → List ℕ → List ℕ
@@ -71,3 +72,8 @@ pub record Leads (c : Crc) (k : Check) (limit : ℕ) (s ps : List ℕ) : Type 0 
 -- the listed sets that do
 abbrev pub leading : Crc → Check → ℕ → List ℕ → List (List ℕ)
 leading c k limit s = sift (λ ps. passesBoth c k (flips s ps)) (packetList c limit s)
+
+-- the set that stands first of those that meet P: it does, and every other that does comes after it in the order
+pub record Earliest (P : List ℕ → Type 0) (ps : List ℕ) : Type 0 where
+  pub meets : P ps
+  pub ahead : (qs : List ℕ) → P qs → (qs ≡ ps → ⊥) → before ps qs ≡ true

@@ -25,15 +25,13 @@ ghost use Rattle.checksum.specs.Totals.{Weighs};
 ghost use Rattle.patterns.specs.Patterns.{mostPositions, positions};
 ghost use Rattle.patterns.specs.Listing.{listing, sift};
 ghost use Rattle.cursor.specs.Cursors.{Listable, Prepared, FoundFits, listedBy, aheadOf};
-ghost use Rattle.repair.specs.Verdicts.{said, settled, outputFor};
-ghost use Rattle.repair.specs.Tallies.{earliest, firstVerdict, Tallied, added, Settleable};
+ghost use Rattle.repair.specs.Verdicts.{said, settled, verdict, outputFor};
+ghost use Rattle.repair.specs.Tallies.{Tallied, added, Settleable};
 ghost use Rattle.repair.specs.Calls.{
   repairRequest,
   repairConditions,
   repairAnswer,
-  namedIn,
   repairCall,
-  NamesWell,
   repairOutput,
   handedBack,
   HandedItself,
@@ -199,7 +197,7 @@ fn tally_all(
 
 // The verdict by a tally.
 fn by_tally(t: Tally) -> Verdict
-    ensures { λ r. ⌜ ((kept : List (List ℕ)) → Tallied kept t → said r ≡ settled kept (earliest kept)) ⌝ }
+    ensures { λ r. ⌜ ((kept : List (List ℕ)) → Tallied kept t → said r ≡ settled kept) ⌝ }
 {
     let count = t.count;
     let chosen = t.chosen;
@@ -233,7 +231,7 @@ fn settle(
     packet: &[u8],
 ) -> Verdict
     requires { ⌜ Settleable crc check limit (now steps) (now firsts) (now packet) ⌝ }
-    ensures { λ r. ⌜ said r ≡ firstVerdict crc check limit (now (packet .entry)) ⌝ }
+    ensures { λ r. ⌜ said r ≡ verdict crc check limit (now (packet .entry)) ⌝ }
 {
     let g = crc.generator;
     let syndrome = packet::remainder_of(crc, packet);
@@ -319,7 +317,7 @@ fn conclude(
     output: &mut [u8],
 ) -> Verdict
     requires { ⌜ Settleable crc check limit (now steps) (now firsts) (now packet) × (length (now output) ≡ length (now packet)) ⌝ }
-    ensures verdict { λ r. ⌜ said r ≡ firstVerdict crc check limit (now (packet .entry)) ⌝ }
+    ensures verdict { λ r. ⌜ said r ≡ verdict crc check limit (now (packet .entry)) ⌝ }
     ensures bytes { λ _. ⌜ now (output .exit) ≡ outputFor crc check limit (now (packet .entry)) (now (output .entry)) ⌝ }
 {
     let v = settle(crc, check, limit, steps, firsts, packet);
@@ -346,8 +344,7 @@ pub fn repair(
     packet: &[u8],
     output: &mut [u8],
 ) -> RepairAnswer
-    ensures answer { λ r. ⌜ repairAnswer r ≡ repairCall (repairRequest (crcOf generator init xorout) check limit (now (steps .entry)) (now (firsts .entry)) (now (packet .entry)) (now (output .entry))) (namedIn (repairAnswer r)) ⌝ }
-    ensures names { λ r. ⌜ NamesWell (repairRequest (crcOf generator init xorout) check limit (now (steps .entry)) (now (firsts .entry)) (now (packet .entry)) (now (output .entry))) (repairAnswer r) ⌝ }
+    ensures answer { λ r. ⌜ repairAnswer r ≡ repairCall (repairRequest (crcOf generator init xorout) check limit (now (steps .entry)) (now (firsts .entry)) (now (packet .entry)) (now (output .entry))) ⌝ }
     ensures bytes { λ _. ⌜ now (output .exit) ≡ repairOutput (repairRequest (crcOf generator init xorout) check limit (now (steps .entry)) (now (firsts .entry)) (now (packet .entry)) (now (output .entry))) ⌝ }
 {
     let judged = judge_repair(

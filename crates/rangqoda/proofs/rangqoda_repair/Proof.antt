@@ -1,24 +1,18 @@
 -- `rangqoda_repair` hands the answer of `repair` on. An accepted one came with room for the verdict, whose bytes are then
--- written, and from which the pattern named can be read.
+-- written.
 use borrow.Author.Needs.{needs}
-use mathlib.Core.Path.{_≡_, refl, sym, ap, ap₂, subst, _∙_}
+use mathlib.Core.Path.{_≡_, refl, sym, ap, ap₂, _∙_}
 use mathlib.Core.List.{List, _++_}
 use Prim.Native.Nat.{ℕ, _≤_}
 use lib.ListN.{length, take, drop}
 use lib.Seq.{length-take-le}
-use Rattle.base.specs.Outcome.{accepted}
-use Rattle.repair.specs.declared.Verdict.{Verdict}
-use Rattle.repair.specs.declared.RepairAnswer.{RepairAnswer}
-use Rattle.repair.specs.declared.RepairAnswer.the-variants.{Decided}
 use Rattle.packet.specs.Packet.{crcOf}
 use Rattle.checksum.specs.Checksum.{checkOf}
 use Rattle.checksum.specs.declared.Check.{Check}
-use Rattle.repair.specs.Verdicts.{said}
-use Rattle.repair.specs.Calls.{Repair, repairRequest, repairAnswer, repairCall, repairOutput, namedIn, NamesWell}
-use Rattle.rangqoda.specs.Verdicts.{verdictBytes, patternIn}
+use Rattle.repair.specs.Calls.{Repair, repairRequest, repairAnswer, repairCall, repairOutput}
 use Rattle.rangqoda.specs.Repairs.{room, outputAfter}
 use Rattle.rangqoda.proofs.CodeLaws.{code-refused, code-accepted, changed-refused, changed-accepted}
-use Rattle.rangqoda.proofs.RepairLaws.{room-within, accepted-room, refused-other, read-name, names-refused}
+use Rattle.rangqoda.proofs.RepairLaws.{room-within, accepted-room}
 use Rattle.rangqoda.proofs.rangqoda_repair.Statement.{statement}
 use Rattle.rangqoda.proofs.rangqoda_repair.Tie as tie
 
@@ -41,8 +35,8 @@ enough c =
     let a = c .before .before .before .before .before .before .args in
     rw (c .room-for .ensures) (room-within (a .verdict .now) (a .output .now))
 
-judged : (c : tie.After-repair) → repairAnswer (c .repair .result) ≡ repairCall (request c) (namedIn (repairAnswer (c .repair .result)))
-judged c = c .repair .ensures .0 ∙ ap (λ (r : Repair). repairCall r (namedIn (repairAnswer (c .repair .result)))) (as-given c)
+judged : (c : tie.After-repair) → repairAnswer (c .repair .result) ≡ repairCall (request c)
+judged c = c .repair .ensures .0 ∙ ap repairCall (as-given c)
 
 -- the same of what it leaves in the output
 left : (c : tie.After-repair) →
@@ -52,15 +46,6 @@ left : (c : tie.After-repair) →
 left c =
     let a = c .before .before .before .before .before .before .before .before .before .args in
     ap₂ (λ (r : Repair) (k : ℕ). repairOutput r ++ drop k (a .output .now)) (as-given c) (c .before .before .before .room-for .ensures)
-
--- where it answers with a verdict, that is the verdict for the pattern that its bytes name, which is named well
-told : (c : tie.After-repair) {v : Verdict} → c .repair .result ≡ Decided v
-    → (accepted (said v) ≡ repairCall (request c) (patternIn (verdictBytes (said v)))) × NamesWell (request c) (accepted (said v))
-told c {v} t = (
-  read-name (request c) v (subst (λ (x : RepairAnswer). repairAnswer x ≡ repairCall (request c) (namedIn (repairAnswer x))) t (judged c)),
-  subst (λ (x : RepairAnswer). NamesWell (request c) (repairAnswer x)) t
-      (subst (λ (r : Repair). NamesWell r (repairAnswer (c .repair .result))) (as-given c) (c .repair .ensures .1 .0)),
-)
 
 slice-relend-prefix-repair : tie.Need-slice-relend-prefix-repair
 slice-relend-prefix-repair c = enough (c .before)
@@ -73,16 +58,16 @@ put-verdict-requires c κs =
     let m = c .before .before in
     let g = m .before .before .before .before in
     let a = g .before .before .before .before .before .before .before .before .before .args in
-    accepted-room (request g) (namedIn (repairAnswer (g .repair .result))) (a .verdict .now) (a .output .now) refl (sym (ap repairAnswer (m .answer2 .given .1)) ∙ judged g)
+    accepted-room (request g) (a .verdict .now) (a .output .now) refl (sym (ap repairAnswer (m .answer2 .given .1)) ∙ judged g)
 
 returns : tie.Need-returns
 returns c =
     let m = c .before .before in
     let g = m .before .before .before .before in
     let a = g .before .before .before .before .before .before .before .before .before .args in
-    let e = refused-other (request g) (namedIn (repairAnswer (g .repair .result))) (patternIn (a .verdict .now)) (sym (ap repairAnswer (m .answer .given .1)) ∙ judged g) in
-    let bytes = ap (λ (l : List ℕ). l ++ drop (g .before .before .before .room-for .result) (a .output .now)) (g .repair .ensures .1 .1) ∙ left g in
-    (code-refused e (c .number-of .ensures), (changed-refused _ _ e, (names-refused (request g) e, bytes)))
+    let e = sym (ap repairAnswer (m .answer .given .1)) ∙ judged g in
+    let bytes = ap (λ (l : List ℕ). l ++ drop (g .before .before .before .room-for .result) (a .output .now)) (g .repair .ensures .1) ∙ left g in
+    (code-refused e (c .number-of .ensures), (changed-refused _ _ e, bytes))
 
 returns-2 : tie.Need-returns-2
 returns-2 c =
@@ -90,10 +75,9 @@ returns-2 c =
     let m = w .before .before .before in
     let g = m .before .before .before .before in
     let a = g .before .before .before .before .before .before .before .before .before .args in
-    let t = told g (m .answer2 .given .1) in
-    let e = t .0 ∙ ap (λ (s : List ℕ). repairCall (request g) (patternIn s)) (sym (w .put-verdict .ensures)) in
-    let bytes = ap (λ (l : List ℕ). l ++ drop (g .before .before .before .room-for .result) (a .output .now)) (g .repair .ensures .1 .1) ∙ left g in
-    (code-accepted e, (w .put-verdict .ensures ∙ changed-accepted _ _ e, (subst (NamesWell (request g)) e (t .1), bytes)))
+    let e = sym (ap repairAnswer (m .answer2 .given .1)) ∙ judged g in
+    let bytes = ap (λ (l : List ℕ). l ++ drop (g .before .before .before .room-for .result) (a .output .now)) (g .repair .ensures .1) ∙ left g in
+    (code-accepted e, (w .put-verdict .ensures ∙ changed-accepted _ _ e, bytes))
 
 pub rangqoda-repair-spec : {M : Type 1} → statement M
 rangqoda-repair-spec =

@@ -1,7 +1,6 @@
 -- `repair` answers by its conditions and then leaves the output alone; else it is the verdict, and the output changes only
 -- for Repaired.
-use mathlib.Core.Path.{_≡_, sym, ap, _∙_}
-use mathlib.Core.List.{[]}
+use mathlib.Core.Path.{sym, ap, _∙_}
 use Prim.Native.Nat.{ℕ, _*_}
 use native.Mathlib.Omega.{arith}
 use borrow.Author.Needs.{needs}
@@ -16,12 +15,9 @@ use Rattle.packet.proofs.ReadLaws.{fit-readable}
 use Rattle.checksum.proofs.ConditionLaws.{fit-range}
 use Rattle.tables.proofs.TableLaws.{right-unless-wrong}
 use Rattle.patterns.proofs.MarkLaws.{fit-limit}
-use Rattle.repair.specs.Verdicts.{said, passesBoth, candidates, verdict, outputFor}
-use Rattle.repair.specs.Tallies.{firstVerdict}
-use Rattle.repair.specs.Calls.{Repair, repairRequest, repairConditions, namedIn}
+use Rattle.repair.specs.Verdicts.{verdict, outputFor}
+use Rattle.repair.specs.Calls.{Repair, repairRequest, repairConditions}
 use Rattle.repair.proofs.ConditionLaws.{fit-copy}
-use Rattle.repair.proofs.SettleLaws.{verdict-named}
-use Rattle.repair.proofs.CallLaws.{names-well}
 use Rattle.repair.proofs.repair.Statement.{statement}
 use Rattle.repair.proofs.repair.Tie as tie
 
@@ -64,8 +60,8 @@ returns c =
     let j = c .before .before .before in
     let r = request (entry j) in
     let h = c .before .judged .given .1 in (
-      sym (turned-down (repairConditions r) (j .judge-repair .ensures) h refused (accepted (verdict (r .crc) (r .check) (r .limit) (r .packet) []))),
-      (tt, sym (turned-down (repairConditions r) (j .judge-repair .ensures) h (λ _. r .output) (outputFor (r .crc) (r .check) (r .limit) (r .packet) (r .output)))),
+      sym (turned-down (repairConditions r) (j .judge-repair .ensures) h refused (accepted (verdict (r .crc) (r .check) (r .limit) (r .packet)))),
+      sym (turned-down (repairConditions r) (j .judge-repair .ensures) h (λ _. r .output) (outputFor (r .crc) (r .check) (r .limit) (r .packet) (r .output))),
     )
 
 returns-2 : tie.Need-returns-2
@@ -75,18 +71,12 @@ returns-2 c =
     let j = m .before .before .before in
     let r = request (entry j) in
     let e = j .judge-repair .ensures in
-    let h = m .before .enum-told .given .1 in
-    let v = f .conclude .result in
-    let first : said v ≡ firstVerdict (r .crc) (r .check) (r .limit) (r .packet) =
-    f .conclude .ensures .0 ∙ ap (λ (k : Crc). firstVerdict k (r .check) (r .limit) (r .packet)) (m .crc-of .ensures) in (
-      ap accepted (verdict-named (passesBoth (r .crc) (r .check) (r .packet)) (candidates (r .crc) (r .check) (r .limit) (r .packet)) v first)
-          ∙ sym (let-through (repairConditions r) e h refused (accepted (verdict (r .crc) (r .check) (r .limit) (r .packet) (namedIn (accepted (said v)))))),
-      (
-        names-well r v first,
-        f .conclude .ensures .1
-            ∙ ap (λ (k : Crc). outputFor k (r .check) (r .limit) (r .packet) (r .output)) (m .crc-of .ensures)
-            ∙ sym (let-through (repairConditions r) e h (λ _. r .output) (outputFor (r .crc) (r .check) (r .limit) (r .packet) (r .output))),
-      ),
+    let h = m .before .enum-told .given .1 in (
+      ap accepted (f .conclude .ensures .0 ∙ ap (λ (k : Crc). verdict k (r .check) (r .limit) (r .packet)) (m .crc-of .ensures))
+          ∙ sym (let-through (repairConditions r) e h refused (accepted (verdict (r .crc) (r .check) (r .limit) (r .packet)))),
+      f .conclude .ensures .1
+          ∙ ap (λ (k : Crc). outputFor k (r .check) (r .limit) (r .packet) (r .output)) (m .crc-of .ensures)
+          ∙ sym (let-through (repairConditions r) e h (λ _. r .output) (outputFor (r .crc) (r .check) (r .limit) (r .packet) (r .output))),
     )
 
 pub repair-spec : {M : Type 1} → statement M
