@@ -8,6 +8,7 @@ from anywhere:
 
     python3 tests/repair_vectors.py
 """
+from collections import Counter
 from functools import cache
 from itertools import combinations, product
 from pathlib import Path
@@ -17,7 +18,7 @@ from reference import CCITT, FIVE, checksum, degree_of, divide, filled, fnv, pas
 from reference import unfit_generator, unfit_length, unfit_range, unfit_values
 
 TARGET = Path(__file__).resolve().parent.parent / "crates" / "repair_test"
-THREE, EIGHT = 11, 0x107  # degrees 3 and 8
+NINE, THREE, EIGHT = 9, 11, 0x107  # degrees 3, 3 and 8
 SMALL = 48  # bits of the longest packet whose every combination is tried
 
 random = Random(1071)
@@ -69,15 +70,26 @@ assert sorted(looked_up(FIVE, 24, 3, 9)) == sorted(every_pattern(FIVE, 24, 3)[9]
 assert sorted(looked_up(CCITT, 40, 3, 0x1021)) == sorted(every_pattern(CCITT, 40, 3)[0x1021])
 
 
+def place(pattern):
+    """Ascends in the order of patterns: fewer positions first, then by the smallest position that differs."""
+    return len(pattern), pattern
+
+
 def verdict(generator, a, e, limit, packet, values=(0, 0)):
-    """The verdict: its kind, and the patterns that pass."""
+    """The verdict: its kind, and the patterns that pass, in order."""
     bits = 8 * len(packet)
     syndrome = remainder_of(packet, generator, *values)
     if syndrome == 0 and passes(packet, a, e):
         return "intact", []
     small = bits <= SMALL
     listed = every_pattern(generator, bits, limit).get(syndrome, []) if small else looked_up(generator, bits, limit, syndrome)
+    listed = sorted(listed, key=place)
     passing = [p for p in listed if passes(flip(packet, p), a, e)]
+    if len(passing) > 1:
+        least = [p for p in passing if len(p) == len(passing[0])]
+        others["first listed"] += listed[0] != passing[0]
+        others["last of the fewest positions"] += least[-1] != passing[0]
+        others["last"] += passing[-1] != least[-1]
     return ("none", "repaired", "several")[min(len(passing), 2)], passing
 
 
@@ -128,8 +140,9 @@ class Group:
             counts.add(min(len(passing), 2))
         copy = flip(packet, passing[0]) if kind == "repaired" else before
         published = {"intact": packet, "repaired": copy}.get(kind, b"")
-        shown = {"repaired": "".join(f"{p} " for p in (passing or [()])[0]), "several": f"{len(passing)} 0 {0 if a == e else 65535} "}
-        return f"{kind} {shown.get(kind, '')}{fnv(copy)} {len(published)} {fnv(published)}"
+        first = "".join(f"{p} " for p in passing[0]) if passing else ""
+        number = f"{len(passing)} " if kind == "several" else ""
+        return f"{kind} {number}{first}{fnv(copy)} {len(published)} {fnv(published)}"
 
     def add(self, a, e, limit, packet, first=0, count=0, room=None, generator=None, seed=None, values=(0, 0)):
         """A call, and one with each of `count` positions from `first` on flipped alone."""
@@ -165,6 +178,7 @@ def last_end(generator, length):
 groups = []
 kinds = {}
 counts = set()  # how many patterns lists have where there is no checksum: none, one, more
+others = Counter()  # how often, where several pass, another pattern than the first that passes could be taken for it
 
 
 def worked_by_hand():
@@ -173,11 +187,14 @@ def worked_by_hand():
     assert verdict(FIVE, 0, 2, 1, bytes.fromhex("7FFF05")) == ("repaired", [(23,)])
     assert verdict(FIVE, 0, 2, 1, bytes.fromhex("FFFF06"))[0] == "none"
     kind, passing = verdict(FIVE, 0, 2, 2, bytes.fromhex("FFFF06"))
-    assert kind == "several" and len(passing) == 2
+    assert kind == "several" and passing == [(0, 1), (3, 7)]
     five = Group(FIVE)
     for text, limits in (("FFFF05", (1, 2, 3, 4)), ("7FFF05", (1,)), ("FFFF06", (1, 2))):
         for limit in limits:
             five.add(0, 2, limit, bytes.fromhex(text))
+    row = "several", [(0, 23), (3, 23), (6, 23)]
+    assert verdict(NINE, 0, 2, 2, bytes.fromhex("7FFF02")) == row and every_pattern(NINE, 24, 2)[5][0] == (0, 2)
+    Group(NINE).add(0, 2, 2, bytes.fromhex("7FFF02"))
     rows = {"7FFE05": ("intact", []), "7FFF05": ("several", [(8,), (23,)]), "FFFD05": ("repaired", [(9,)]), "FFFF06": ("none", [])}
     for text, row in rows.items():
         assert verdict(FIVE, 0, 0, 1, bytes.fromhex(text)) == row
@@ -359,9 +376,10 @@ refused_in_order()
 refused_at_the_edges()
 without_a_checksum()
 
+assert all(others[kind] > 100 for kind in ("first listed", "last of the fewest positions", "last")), others
 text = "\n".join([str(len(groups)), *(line for group in groups for line in (group.head(), *group.given))]) + "\n"
 lines = [line for group in groups for line in group.expected]
 assert len(text) < 131072, len(text)  # the room that the program has for it
 TARGET.joinpath("stdin").write_text(text)
 TARGET.joinpath("stdout").write_text("\n".join(lines) + "\n")
-print(f"{len(groups)} groups, {sum(len(group.given) for group in groups)} cases, {len(lines)} calls, {kinds}, {len(text)} bytes of input")
+print(f"{len(groups)} groups, {sum(len(group.given) for group in groups)} cases, {len(lines)} calls, {kinds}, {dict(others)}, {len(text)} bytes of input")

@@ -7,9 +7,6 @@
 // The numbers of a call are given by their high and low 32 bits.
 use checksum::Check;
 use libc::STDIN_FILENO;
-use packet::RemainderAnswer;
-use patterns::MOST_POSITIONS;
-use patterns::Pattern;
 use repair::RepairAnswer;
 use repair::Verdict;
 
@@ -30,47 +27,7 @@ fn flip(packet: &mut [u8], p: usize) {
     }
 }
 
-fn flip_position(packet: &mut [u8], p: u16) {
-    flip(packet, p as usize);
-}
-
-fn flip_each(packet: &mut [u8], pos: &[u16]) {
-    let mut i = 0;
-    while i < pos.len() {
-        flip_position(packet, pos[i]);
-        i += 1;
-    }
-}
-
-fn print_remainder(set: Setting, packet: &[u8]) {
-    match packet::remainder(set.generator, set.init, set.xorout, packet) {
-        RemainderAnswer::Remainder(r) => testkit::print_number(r, b' '),
-        RemainderAnswer::Refused(r) => testkit::print_refused(r, b' '),
-    }
-}
-
-fn print_sum(check: Check, packet: &[u8]) {
-    let from = check.from;
-    let to = check.to;
-    if from <= to {
-        if to <= packet.len() {
-            testkit::print_number(checksum::sum(&packet[from..to]) as u64, b' ');
-        }
-    }
-}
-
-// The remainder and the sum with the pattern's bits flipped; the packet is then as it was.
-fn print_checks(set: Setting, p: Pattern, packet: &mut [u8]) {
-    let held = patterns::spread(p);
-    let n = testkit::least(patterns::count_of(p), MOST_POSITIONS);
-    flip_each(packet, &held[..n]);
-    print_remainder(set, packet);
-    print_sum(set.check, packet);
-    flip_each(packet, &held[..n]);
-}
-
-// The verdict. Which pattern Several names is left open, so that its checks are printed in its place.
-fn print_verdict(set: Setting, verdict: Verdict, packet: &mut [u8]) {
+fn print_verdict(verdict: Verdict) {
     match verdict {
         Verdict::Intact => testkit::print(b"intact "),
         Verdict::Repaired(p) => {
@@ -80,7 +37,7 @@ fn print_verdict(set: Setting, verdict: Verdict, packet: &mut [u8]) {
         Verdict::Several(k, p) => {
             testkit::print(b"several ");
             testkit::print_number(k, b' ');
-            print_checks(set, p, packet);
+            testkit::print_pattern(p);
         }
         Verdict::None => testkit::print(b"none "),
     }
@@ -92,8 +49,8 @@ fn print_published(published: &[u8]) {
     testkit::print_number(testkit::hash(published), b'\n');
 }
 
-fn print_told(set: Setting, verdict: Verdict, packet: &mut [u8], out: &[u8]) {
-    print_verdict(set, verdict, packet);
+fn print_told(verdict: Verdict, packet: &mut [u8], out: &[u8]) {
+    print_verdict(verdict);
     testkit::print_number(testkit::hash(out), b' ');
     print_published(repair::hand_back(packet, out, verdict));
 }
@@ -117,7 +74,7 @@ fn ask(set: Setting, steps: &[u16], firsts: &[u16], packet: &mut [u8], out: &mut
             testkit::print_refused(r, b' ');
             testkit::print_number(testkit::hash(out), b'\n');
         }
-        RepairAnswer::Decided(verdict) => print_told(set, verdict, packet, out),
+        RepairAnswer::Decided(verdict) => print_told(verdict, packet, out),
     }
 }
 
