@@ -196,9 +196,9 @@
  *                             passes: 1 for RANGQODA_REPAIRED, 2 or more for
  *                             RANGQODA_SEVERAL, otherwise 0
  *              bytes 9 to 17  the record of a pattern, then zeros: the one that
- *                             passes for RANGQODA_REPAIRED, one of those that
- *                             pass for RANGQODA_SEVERAL (which one is left
- *                             open), otherwise zeros only
+ *                             passes for RANGQODA_REPAIRED, the first in the
+ *                             list of those that pass for RANGQODA_SEVERAL,
+ *                             otherwise zeros only
  */
 
 #ifndef RANGQODA_H
@@ -443,7 +443,9 @@ uint32_t rangqoda_page(uint64_t generator, size_t length, size_t limit,
  *
  *   RANGQODA_REPAIRED  just one passes; output holds the flipped packet (see
  *                      "What a repair does not tell" above)
- *   RANGQODA_SEVERAL   more than one passes; the verdict has their number
+ *   RANGQODA_SEVERAL   more than one passes; the verdict has their number,
+ *                      and the one of them that stands first in the list: no
+ *                      repair, since any of them may be what happened, or none
  *   RANGQODA_NONE      none passes
  *
  * The tables are those of rangqoda_tables; every entry is verified in each

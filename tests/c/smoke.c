@@ -443,7 +443,8 @@ static void repairs(void)
 
     EXPECT(rangqoda_repair(RANGQODA_FIVE, 0, 0, 0, 2, 2, step, 32, first, 32, twice, 3, output, 3, verdict,
                            sizeof verdict) == RANGQODA_ACCEPTED);
-    EXPECT(verdict[0] == RANGQODA_SEVERAL && verdict[1] == 0 && verdict[8] == 2 && verdict[9] == 2 && output[0] == 1);
+    EXPECT(verdict[0] == RANGQODA_SEVERAL && verdict[1] == 0 && verdict[8] == 2 && output[0] == 1);
+    EXPECT(verdict[9] == 2 && verdict[10] == 0 && verdict[11] == 0 && verdict[12] == 0 && verdict[13] == 1 && verdict[14] == 0);
     EXPECT(rangqoda_publish(verdict, sizeof verdict) == RANGQODA_PUBLISH_NOTHING);
 
     EXPECT(rangqoda_repair(RANGQODA_FIVE, 0, 0, 0, 2, 1, step, 32, first, 32, once, 3, output, 3, verdict,
@@ -461,6 +462,66 @@ static void repairs(void)
     EXPECT(rangqoda_repair(RANGQODA_FIVE, 0, 0, 0, 3, 1, step, 32, first, 32, once, 3, output, 3, verdict,
                            sizeof verdict) == RANGQODA_REFUSED_RANGE);
     EXPECT(verdict[0] == RANGQODA_REPAIRED && memcmp(output, intact, 3) == 0);
+}
+
+static uint8_t earliest[RANGQODA_RECORD_BYTES];
+static uint64_t passing, listed_before;
+
+/* Flips every set of as many positions as the record has, in order, those before `placed` being in it and the others from p on:
+   notes the first set that passes, how many do, and how many are listed before it. */
+static void flip_sets(uint8_t *packet, uint8_t *record, unsigned placed, unsigned p)
+{
+    uint64_t left;
+
+    if (placed == record[0]) {
+        if (rangqoda_remainder(9, 0, 0, packet, 3, &left) != 0 || left != 0)
+            return;
+        if (packet[0] == 0xFF && packet[1] == 0xFF && passing++ == 0)
+            memcpy(earliest, record, sizeof earliest);
+        listed_before += passing == 0;
+        return;
+    }
+    for (; p < 24; p++) {
+        packet[2 - p / 8] = (uint8_t)(packet[2 - p / 8] ^ 1u << p % 8);
+        record[2 + 2 * placed] = (uint8_t)p;
+        flip_sets(packet, record, placed + 1, p + 1);
+        packet[2 - p / 8] = (uint8_t)(packet[2 - p / 8] ^ 1u << p % 8);
+    }
+}
+
+/* Every damage of two bits in three bytes, by a generator of degree 3: the verdict is the one that flipping every set gives,
+   to the byte, and of several it names the first that passes, which often is not the first listed. */
+static void several_names_the_earliest(void)
+{
+    static const uint8_t sent[3] = { 0xFF, 0xFF, 0x03 };
+    uint8_t verdict[RANGQODA_VERDICT_BYTES], right[RANGQODA_VERDICT_BYTES], output[3], packet[3];
+    uint64_t period, wrong = 0, later = 0;
+
+    EXPECT(rangqoda_tables(9, step, 8, first, 8, &period) == RANGQODA_ACCEPTED);
+    for (unsigned k = 0; k < 24 * 24 * 3; k++) {
+        unsigned p = k % 24, q = k / 24 % 24, limit = 1 + k / 576;
+        uint8_t record[RANGQODA_RECORD_BYTES] = { 0 };
+
+        memcpy(packet, sent, 3);
+        packet[2 - p / 8] = (uint8_t)(packet[2 - p / 8] ^ 1u << p % 8);
+        packet[2 - q / 8] = (uint8_t)(packet[2 - q / 8] ^ 1u << q % 8);
+        passing = listed_before = 0;
+        flip_sets(packet, record, 0, 0);
+        if (passing > 0)
+            continue; /* intact */
+        for (record[0] = 1; record[0] <= limit; record[0]++)
+            flip_sets(packet, record, 0, 0);
+        memset(right, 0, sizeof right);
+        right[0] = passing == 0 ? RANGQODA_NONE : passing == 1 ? RANGQODA_REPAIRED : RANGQODA_SEVERAL;
+        right[8] = (uint8_t)passing;
+        if (passing > 0)
+            memcpy(right + 9, earliest, sizeof earliest);
+        wrong += rangqoda_repair(9, 0, 0, 0, 2, limit, step, 8, first, 8, packet, 3, output, 3, verdict, sizeof verdict) != 0;
+        wrong += passing > 255 || memcmp(verdict, right, sizeof right) != 0;
+        later += passing > 1 && listed_before > 0;
+    }
+    EXPECT(wrong == 0);
+    EXPECT(later > 100);
 }
 
 /* Packets without a checksum: every damage of up to two bits in three bytes, at every place for the range, against the list that
@@ -482,7 +543,8 @@ static void no_checksum(void)
     for (unsigned k = 0; k < 24 * 25 * 3 * 4; k++) {
         /* no flip where p == q, one where q is 24, which is no position, and else two */
         unsigned p = k % 24, q = k / 24 % 25, place = k / 600 % 3, limit = 1 + k / 1800;
-        uint8_t mark[RANGQODA_MARK_BYTES] = { RANGQODA_MARK_START }, right = RANGQODA_INTACT, records[RANGQODA_RECORD_BYTES];
+        uint8_t mark[RANGQODA_MARK_BYTES] = { RANGQODA_MARK_START }, right = RANGQODA_INTACT;
+        uint8_t records[RANGQODA_RECORD_BYTES] = { 0 }, begins[RANGQODA_RECORD_BYTES] = { 0 };
         uint64_t written, listed = 0;
         size_t used;
         int within = p == q || q == 24 || limit > 1;
@@ -496,6 +558,8 @@ static void no_checksum(void)
             if (rangqoda_page(RANGQODA_FIVE, 24, limit, left, step, 32, first, 32, mark, sizeof mark, records, sizeof records,
                               &used, &written) != 0)
                 break;
+            if (listed == 0)
+                memcpy(begins, records, 1 + 2u * records[0]);
             listed += written;
             right = listed == 0 ? RANGQODA_NONE : listed == 1 ? RANGQODA_REPAIRED : RANGQODA_SEVERAL;
         }
@@ -503,6 +567,7 @@ static void no_checksum(void)
         wrong += rangqoda_repair(RANGQODA_FIVE, 0, 0, place, place, limit, step, 32, first, 32, packet, 3, output, 3, verdict,
                                  sizeof verdict) != 0;
         wrong += verdict[0] != right || verdict[7] * 256u + verdict[8] != listed;
+        wrong += memcmp(verdict + 9, begins, sizeof begins) != 0;
         wrong += right == RANGQODA_NONE && within;
         wrong += right == RANGQODA_REPAIRED ? rangqoda_remainder(RANGQODA_FIVE, 0, 0, output, 3, &left) != 0 || left != 0
                                             : output[0] != 0xAA || output[1] != 0xAA || output[2] != 0xAA;
@@ -545,6 +610,7 @@ int main(void)
     tables();
     pages();
     repairs();
+    several_names_the_earliest();
     no_checksum();
     printf("%d checks, %d failed\n", checks, failures);
     return failures != 0;

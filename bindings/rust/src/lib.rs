@@ -359,7 +359,7 @@ pub enum Verdict {
     Several {
         /// How many.
         count: u64,
-        /// One of them. Which one is left open.
+        /// The one of them that stands first in the list. It is no repair: any of them may be what happened, or none.
         pattern: Pattern,
     },
     /// None does.
@@ -630,7 +630,7 @@ pub fn page(
 ///
 /// // Of these two patterns the checksum struck one; without a checksum both are left.
 /// let verdict = repair(Crc::plain(FIVE), NO_CHECKSUM, 1, tables.as_slices(), &[0x7F, 0xFF, 0x05], &mut output)?;
-/// assert!(matches!(verdict, Verdict::Several { count: 2, .. }));
+/// assert_eq!(verdict, Verdict::Several { count: 2, pattern: Pattern::new(&[8]).unwrap() });
 /// # Ok::<(), rangqoda::Refusal>(())
 /// ```
 pub fn repair(

@@ -98,7 +98,15 @@ fn verdicts_of_five() {
     assert_eq!(remainder(Crc::plain(FIVE), &[0xFF, 0xFF, 0x06]), Ok(3));
     assert_eq!(tables.repair(Crc::plain(FIVE), 0..2, 1, &[0xFF, 0xFF, 0x06], &mut output), Ok(Verdict::None));
     let several = tables.repair(Crc::plain(FIVE), 0..2, 2, &[0xFF, 0xFF, 0x06], &mut output).unwrap();
-    assert!(matches!(several, Verdict::Several { count: 2, pattern } if pattern.len() == 2), "{several:?}");
+    assert_eq!(several, Verdict::Several { count: 2, pattern: pattern(&[0, 1]) });
+    assert_eq!(output, [0xAA; 3]);
+
+    // of several the first that passes, which is not the first listed
+    let nine = Tables::new(9).unwrap();
+    let s = remainder(Crc::plain(9), &[0x7F, 0xFF, 0x02]).unwrap();
+    assert_eq!(list(9, 24, 2, s)[0], [0, 2]);
+    let several = nine.repair(Crc::plain(9), 0..2, 2, &[0x7F, 0xFF, 0x02], &mut output).unwrap();
+    assert_eq!(several, Verdict::Several { count: 3, pattern: pattern(&[0, 23]) });
     assert_eq!(output, [0xAA; 3]);
 
     let s = remainder(Crc::plain(FIVE), &[0x7F, 0xFF, 0x05]).unwrap();
@@ -116,8 +124,7 @@ fn verdicts_of_five_without_a_checksum() {
     let mut verdict = |packet: &[u8]| tables.repair(Crc::plain(FIVE), NO_CHECKSUM, 1, packet, &mut output).unwrap();
     assert_eq!(sum(&[0x7F, 0xFE]), 0x7FFE);
     assert_eq!(verdict(&[0x7F, 0xFE, 0x05]), Verdict::Intact);
-    let several = verdict(&[0x7F, 0xFF, 0x05]);
-    assert!(matches!(several, Verdict::Several { count: 2, pattern } if pattern.len() == 1), "{several:?}");
+    assert_eq!(verdict(&[0x7F, 0xFF, 0x05]), Verdict::Several { count: 2, pattern: pattern(&[8]) });
     assert_eq!(verdict(&[0xFF, 0xFF, 0x06]), Verdict::None);
     assert_eq!(verdict(&[0xFF, 0xFD, 0x05]), Verdict::Repaired(pattern(&[9])));
     assert_eq!(output, [0xFF, 0xFF, 0x05]);

@@ -178,7 +178,7 @@ pub enum Summing {
     Nothing,
 }
 
-/// What a repair finds: how many patterns pass (none for an intact packet), and the last of them.
+/// What a repair finds: how many patterns pass (none for an intact packet), and the first of them.
 #[derive(Clone, Copy, Debug, PartialEq)]
 pub struct Found {
     pub intact: bool,
@@ -232,9 +232,11 @@ impl Reader {
         let copy = &mut copy[..packet.len()];
         copy.copy_from_slice(packet);
         let mut note = |positions: &[u16]| {
+            if found.passing == 0 {
+                found.count = positions.len();
+                found.positions[..positions.len()].copy_from_slice(positions);
+            }
             found.passing += 1;
-            found.count = positions.len();
-            found.positions[..positions.len()].copy_from_slice(positions);
         };
         match summing {
             Summing::Nothing => self.lookup.patterns(syndrome.into(), 8 * packet.len(), limit, &mut note),

@@ -168,12 +168,13 @@ fn damaged(random: &mut Random, packets: usize, len: usize, flips: usize) -> Vec
         .collect()
 }
 
-/// The library's verdict in the method's terms, but for the pattern of several, which is left open.
+/// The library's verdict in the method's terms.
 fn same(verdict: Verdict, found: Found) -> bool {
+    let first = &found.positions[..found.count];
     match verdict {
         Verdict::Intact => found.intact,
-        Verdict::Repaired(pattern) => found.passing == 1 && pattern.as_slice() == &found.positions[..found.count],
-        Verdict::Several { count, .. } => found.passing == count,
+        Verdict::Repaired(pattern) => found.passing == 1 && pattern.as_slice() == first,
+        Verdict::Several { count, pattern } => found.passing == count && pattern.as_slice() == first,
         Verdict::None => !found.intact && found.passing == 0,
     }
 }

@@ -19,12 +19,12 @@ pub enum Mark {
     After(Pattern),
 }
 
-/// The verdict. `Several` has every pattern that passes; the library names one of them.
+/// The verdict. `Several` has how many patterns pass, and the one of them that stands first in the list.
 #[derive(Clone, Debug, PartialEq, Eq)]
 pub enum Verdict {
     Intact,
     Repaired(Pattern),
-    Several(Vec<Pattern>),
+    Several(u64, Pattern),
     None,
 }
 
@@ -448,18 +448,17 @@ pub fn repair(of: &RepairOf<'_>, output: &mut [u8]) -> Answer<Verdict> {
     if syndrome == 0 && passes(of.packet, of.start, of.end) {
         return Ok(Verdict::Intact);
     }
-    let mut passing: Vec<Pattern> = list(of.crc.generator, 8 * of.packet.len(), of.limit, syndrome)
+    let passing: Vec<Pattern> = list(of.crc.generator, 8 * of.packet.len(), of.limit, syndrome)
         .iter()
         .filter(|pattern| passes(&flipped(of.packet, pattern), of.start, of.end))
         .cloned()
         .collect();
-    Ok(match passing.len() {
-        0 => Verdict::None,
-        1 => {
-            let pattern = passing.remove(0);
-            output.copy_from_slice(&flipped(of.packet, &pattern));
-            Verdict::Repaired(pattern)
+    Ok(match &passing[..] {
+        [] => Verdict::None,
+        [pattern] => {
+            output.copy_from_slice(&flipped(of.packet, pattern));
+            Verdict::Repaired(pattern.clone())
         }
-        _ => Verdict::Several(passing),
+        [pattern, ..] => Verdict::Several(passing.len() as u64, pattern.clone()),
     })
 }
