@@ -196,9 +196,9 @@
  *                             passes: 1 for RANGQODA_REPAIRED, 2 or more for
  *                             RANGQODA_SEVERAL, otherwise 0
  *              bytes 9 to 17  the record of a pattern, then zeros: the one that
- *                             passes for RANGQODA_REPAIRED, the first in the
- *                             list of those that pass for RANGQODA_SEVERAL,
- *                             otherwise zeros only
+ *                             passes for RANGQODA_REPAIRED, of those that pass
+ *                             the one that stands first in the list for
+ *                             RANGQODA_SEVERAL, otherwise zeros only
  */
 
 #ifndef RANGQODA_H

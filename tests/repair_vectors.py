@@ -18,7 +18,7 @@ from reference import CCITT, FIVE, checksum, degree_of, divide, filled, fnv, pas
 from reference import unfit_generator, unfit_length, unfit_range, unfit_values
 
 TARGET = Path(__file__).resolve().parent.parent / "crates" / "repair_test"
-NINE, THREE, EIGHT = 9, 11, 0x107  # degrees 3, 3 and 8
+THREE, EIGHT = 11, 0x107  # degrees 3 and 8
 SMALL = 48  # bits of the longest packet whose every combination is tried
 
 random = Random(1071)
@@ -70,26 +70,22 @@ assert sorted(looked_up(FIVE, 24, 3, 9)) == sorted(every_pattern(FIVE, 24, 3)[9]
 assert sorted(looked_up(CCITT, 40, 3, 0x1021)) == sorted(every_pattern(CCITT, 40, 3)[0x1021])
 
 
-def place(pattern):
-    """Ascends in the order of patterns: fewer positions first, then by the smallest position that differs."""
-    return len(pattern), pattern
+def listing(generator, limit, packet, values=(0, 0)):
+    """The list for a packet, in order: fewer positions first, then by the smallest position that differs."""
+    bits = 8 * len(packet)
+    syndrome = remainder_of(packet, generator, *values)
+    if bits <= SMALL:
+        listed = every_pattern(generator, bits, limit).get(syndrome, [])
+    else:
+        listed = looked_up(generator, bits, limit, syndrome)
+    return sorted(listed, key=lambda pattern: (len(pattern), pattern))
 
 
 def verdict(generator, a, e, limit, packet, values=(0, 0)):
     """The verdict: its kind, and the patterns that pass, in order."""
-    bits = 8 * len(packet)
-    syndrome = remainder_of(packet, generator, *values)
-    if syndrome == 0 and passes(packet, a, e):
+    if remainder_of(packet, generator, *values) == 0 and passes(packet, a, e):
         return "intact", []
-    small = bits <= SMALL
-    listed = every_pattern(generator, bits, limit).get(syndrome, []) if small else looked_up(generator, bits, limit, syndrome)
-    listed = sorted(listed, key=place)
-    passing = [p for p in listed if passes(flip(packet, p), a, e)]
-    if len(passing) > 1:
-        least = [p for p in passing if len(p) == len(passing[0])]
-        others["first listed"] += listed[0] != passing[0]
-        others["last of the fewest positions"] += least[-1] != passing[0]
-        others["last"] += passing[-1] != least[-1]
+    passing = [p for p in listing(generator, limit, packet, values) if passes(flip(packet, p), a, e)]
     return ("none", "repaired", "several")[min(len(passing), 2)], passing
 
 
@@ -140,9 +136,14 @@ class Group:
             counts.add(min(len(passing), 2))
         copy = flip(packet, passing[0]) if kind == "repaired" else before
         published = {"intact": packet, "repaired": copy}.get(kind, b"")
-        first = "".join(f"{p} " for p in passing[0]) if passing else ""
-        number = f"{len(passing)} " if kind == "several" else ""
-        return f"{kind} {number}{first}{fnv(copy)} {len(published)} {fnv(published)}"
+        named = "".join(f"{p} " for p in passing[0]) if passing else ""
+        if kind == "several":
+            named = f"{len(passing)} {named}"
+            fewest = [p for p in passing if len(p) == len(passing[0])]
+            listed = listing(generator, limit, packet, values)
+            wrong = {"first listed": listed[0], "last": passing[-1], "last of the fewest positions": fewest[-1]}
+            others.update(choice for choice, pattern in wrong.items() if pattern != passing[0])
+        return f"{kind} {named}{fnv(copy)} {len(published)} {fnv(published)}"
 
     def add(self, a, e, limit, packet, first=0, count=0, room=None, generator=None, seed=None, values=(0, 0)):
         """A call, and one with each of `count` positions from `first` on flipped alone."""
@@ -178,7 +179,7 @@ def last_end(generator, length):
 groups = []
 kinds = {}
 counts = set()  # how many patterns lists have where there is no checksum: none, one, more
-others = Counter()  # how often, where several pass, another pattern than the first that passes could be taken for it
+others = Counter()  # how often, where several pass, a wrong choice is another pattern than the first that passes
 
 
 def worked_by_hand():
@@ -192,9 +193,10 @@ def worked_by_hand():
     for text, limits in (("FFFF05", (1, 2, 3, 4)), ("7FFF05", (1,)), ("FFFF06", (1, 2))):
         for limit in limits:
             five.add(0, 2, limit, bytes.fromhex(text))
-    row = "several", [(0, 23), (3, 23), (6, 23)]
-    assert verdict(NINE, 0, 2, 2, bytes.fromhex("7FFF02")) == row and every_pattern(NINE, 24, 2)[5][0] == (0, 2)
-    Group(NINE).add(0, 2, 2, bytes.fromhex("7FFF02"))
+    nine = bytes.fromhex("7FFF02")
+    assert listing(9, 2, nine)[0] == (0, 2)
+    assert verdict(9, 0, 2, 2, nine) == ("several", [(0, 23), (3, 23), (6, 23)])
+    Group(9).add(0, 2, 2, nine)
     rows = {"7FFE05": ("intact", []), "7FFF05": ("several", [(8,), (23,)]), "FFFD05": ("repaired", [(9,)]), "FFFF06": ("none", [])}
     for text, row in rows.items():
         assert verdict(FIVE, 0, 0, 1, bytes.fromhex(text)) == row
@@ -376,10 +378,11 @@ refused_in_order()
 refused_at_the_edges()
 without_a_checksum()
 
-assert all(others[kind] > 100 for kind in ("first listed", "last of the fewest positions", "last")), others
+assert len(others) == 3 and min(others.values()) > 100, others
 text = "\n".join([str(len(groups)), *(line for group in groups for line in (group.head(), *group.given))]) + "\n"
 lines = [line for group in groups for line in group.expected]
 assert len(text) < 131072, len(text)  # the room that the program has for it
 TARGET.joinpath("stdin").write_text(text)
 TARGET.joinpath("stdout").write_text("\n".join(lines) + "\n")
-print(f"{len(groups)} groups, {sum(len(group.given) for group in groups)} cases, {len(lines)} calls, {kinds}, {dict(others)}, {len(text)} bytes of input")
+print(f"{len(groups)} groups, {sum(len(group.given) for group in groups)} cases, {len(lines)} calls, {len(text)} bytes of input")
+print(f"{kinds}; of several, another than the {dict(others)}")

@@ -476,9 +476,13 @@ static void flip_sets(uint8_t *packet, uint8_t *record, unsigned placed, unsigne
     if (placed == record[0]) {
         if (rangqoda_remainder(9, 0, 0, packet, 3, &left) != 0 || left != 0)
             return;
-        if (packet[0] == 0xFF && packet[1] == 0xFF && passing++ == 0)
+        if (packet[0] != 0xFF || packet[1] != 0xFF) {
+            listed_before += passing == 0;
+            return;
+        }
+        if (passing == 0)
             memcpy(earliest, record, sizeof earliest);
-        listed_before += passing == 0;
+        passing++;
         return;
     }
     for (; p < 24; p++) {
@@ -506,16 +510,19 @@ static void several_names_the_earliest(void)
         packet[2 - p / 8] = (uint8_t)(packet[2 - p / 8] ^ 1u << p % 8);
         packet[2 - q / 8] = (uint8_t)(packet[2 - q / 8] ^ 1u << q % 8);
         passing = listed_before = 0;
-        flip_sets(packet, record, 0, 0);
-        if (passing > 0)
-            continue; /* intact */
-        for (record[0] = 1; record[0] <= limit; record[0]++)
-            flip_sets(packet, record, 0, 0);
         memset(right, 0, sizeof right);
-        right[0] = passing == 0 ? RANGQODA_NONE : passing == 1 ? RANGQODA_REPAIRED : RANGQODA_SEVERAL;
-        right[8] = (uint8_t)passing;
-        if (passing > 0)
-            memcpy(right + 9, earliest, sizeof earliest);
+        memset(verdict, 0xAA, sizeof verdict);
+        flip_sets(packet, record, 0, 0);
+        if (passing > 0) {
+            right[0] = RANGQODA_INTACT;
+        } else {
+            for (record[0] = 1; record[0] <= limit; record[0]++)
+                flip_sets(packet, record, 0, 0);
+            right[0] = passing == 0 ? RANGQODA_NONE : passing == 1 ? RANGQODA_REPAIRED : RANGQODA_SEVERAL;
+            right[8] = (uint8_t)passing;
+            if (passing > 0)
+                memcpy(right + 9, earliest, sizeof earliest);
+        }
         wrong += rangqoda_repair(9, 0, 0, 0, 2, limit, step, 8, first, 8, packet, 3, output, 3, verdict, sizeof verdict) != 0;
         wrong += passing > 255 || memcmp(verdict, right, sizeof right) != 0;
         later += passing > 1 && listed_before > 0;
@@ -558,7 +565,7 @@ static void no_checksum(void)
             if (rangqoda_page(RANGQODA_FIVE, 24, limit, left, step, 32, first, 32, mark, sizeof mark, records, sizeof records,
                               &used, &written) != 0)
                 break;
-            if (listed == 0)
+            if (listed == 0 && records[0] <= RANGQODA_MOST_POSITIONS)
                 memcpy(begins, records, 1 + 2u * records[0]);
             listed += written;
             right = listed == 0 ? RANGQODA_NONE : listed == 1 ? RANGQODA_REPAIRED : RANGQODA_SEVERAL;

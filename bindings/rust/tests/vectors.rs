@@ -101,19 +101,23 @@ fn verdicts_of_five() {
     assert_eq!(several, Verdict::Several { count: 2, pattern: pattern(&[0, 1]) });
     assert_eq!(output, [0xAA; 3]);
 
-    // of several the first that passes, which is not the first listed
-    let nine = Tables::new(9).unwrap();
-    let s = remainder(Crc::plain(9), &[0x7F, 0xFF, 0x02]).unwrap();
-    assert_eq!(list(9, 24, 2, s)[0], [0, 2]);
-    let several = nine.repair(Crc::plain(9), 0..2, 2, &[0x7F, 0xFF, 0x02], &mut output).unwrap();
-    assert_eq!(several, Verdict::Several { count: 3, pattern: pattern(&[0, 23]) });
-    assert_eq!(output, [0xAA; 3]);
-
     let s = remainder(Crc::plain(FIVE), &[0x7F, 0xFF, 0x05]).unwrap();
     assert_eq!(list(FIVE, 24, 1, s), [[8], [23]]);
     let repaired = tables.repair(Crc::plain(FIVE), 0..2, 1, &[0x7F, 0xFF, 0x05], &mut output).unwrap();
     assert_eq!(repaired, Verdict::Repaired(pattern(&[23])));
     assert_eq!(output, [0xFF, 0xFF, 0x05]);
+}
+
+/// Several names the first pattern that passes, here another than the first listed.
+#[test]
+fn verdict_of_nine() {
+    let mut output = [0xAA; 3];
+    let s = remainder(Crc::plain(9), &[0x7F, 0xFF, 0x02]).unwrap();
+    assert_eq!(list(9, 24, 2, s)[0], [0, 2]);
+    let tables = Tables::new(9).unwrap();
+    let several = tables.repair(Crc::plain(9), 0..2, 2, &[0x7F, 0xFF, 0x02], &mut output).unwrap();
+    assert_eq!(several, Verdict::Several { count: 3, pattern: pattern(&[0, 23]) });
+    assert_eq!(output, [0xAA; 3]);
 }
 
 /// Packets without a second check, the first of remainder 0 with a sum that is not FFFFh.

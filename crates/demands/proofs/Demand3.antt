@@ -164,7 +164,7 @@ module _ (c : Crc) (k : Check) (limit : ℕ) (s : List ℕ) (supposed : Supposed
         → Leads c k limit s q × ((p : List ℕ) → Leads c k limit s p → (p ≡ q → ⊥) → before q p ≡ true)
     names-the-earliest n q h =
         let e = verdict-several c k limit s (fit-of supposed) (supposed .bytes) n q .0 (told-verdict ∙ h) .3 in
-        (e .meets, e .ahead)
+        (e .meets, e .othersAfter)
 
     -- section 6: for Repaired the output holds the packet with the pattern's bits flipped, and for any other verdict it stays
     pub the-output : ((p : List ℕ) → v ≡ repaired p → repairOutput (repairWith c k limit s lent) ≡ flips s p)

@@ -1,4 +1,4 @@
--- Verdicts as bytes: the kind, how many patterns pass in eight bytes, and the record of one with zeros behind it.
+-- Verdicts as bytes: the kind, how many patterns pass in eight bytes, and the record of the first with zeros behind it.
 use Prim.Native.Nat.{ℕ, _+_}
 use mathlib.Core.List.{List, [], _∷_, _++_}
 use lib.Dec.{eqb}

@@ -1,5 +1,6 @@
 -- The verdict in the words of docs/RULES.md. For a listed pattern the flipped packet's remainder is 0, so that a passing range
--- is as much as passing both checks; and since the list ascends, one member is one set and several are several sets.
+-- is as much as passing both checks; and since the list ascends, one member is one set, several are several sets, and the first
+-- member is the earliest.
 use mathlib.Core.Path.{_≡_, refl, sym, ap, subst, _∙_}
 use mathlib.Core.Bool.{Bool, true, false, _&&_, true≢false}
 use mathlib.Core.Logic.{_↔_}
@@ -62,47 +63,47 @@ members-two (x ∷ y ∷ ys) i j other = omega arith
 
 pub earliest-same : {P Q : List ℕ → Type 0} → ((ps : List ℕ) → P ps ↔ Q ps) → (ps : List ℕ) → Earliest P ps ↔ Earliest Q ps
 earliest-same same ps = (
-  λ e. record { meets = same ps .0 (e .meets); ahead = λ qs h. e .ahead qs (same qs .1 h) },
-  λ e. record { meets = same ps .1 (e .meets); ahead = λ qs h. e .ahead qs (same qs .0 h) },
+  λ e. record { meets = same ps .0 (e .meets); othersAfter = λ qs h. e .othersAfter qs (same qs .1 h) },
+  λ e. record { meets = same ps .1 (e .meets); othersAfter = λ qs h. e .othersAfter qs (same qs .0 h) },
 )
 
 -- of an ascending list it is the first member, and no other
 first-earliest : {x : List ℕ} {xs : List (List ℕ)} → Sorted before (x ∷ xs) → Earliest (λ ps. In ps (x ∷ xs)) x
 first-earliest sorted =
-    record { meets = here refl; ahead = λ qs i other. elim i [ here d ↦ absurd (other d) | there j ↦ sorted-head sorted qs j ] }
+    record { meets = here refl; othersAfter = λ qs i other. elim i [ here d ↦ absurd (other d) | there j ↦ sorted-head sorted qs j ] }
 
 earliest-first : {x p : List ℕ} {xs : List (List ℕ)} → Sorted before (x ∷ xs) → Earliest (λ ps. In ps (x ∷ xs)) p → x ≡ p
 earliest-first {x} {p} sorted e =
     elim (e .meets) [
       | here d ↦ sym d
-      | there i ↦ let h = sorted-head sorted p i in absurd (never-both before-strict-total x p h (e .ahead x (here refl) (before-differs h)))
+      | there i ↦ let h = sorted-head sorted p i in absurd (never-both before-strict-total x p h (e .othersAfter x (here refl) (before-differs h)))
     ]
 
 -- ---- the verdict by the candidates ----
 
-pub clash : {A : Type 0} → _≡_ {A = ℕ} 0 1 → A
-clash e = absurd (omega arith)
+pub zero-not-one : {A : Type 0} → _≡_ {A = ℕ} 0 1 → A
+zero-not-one e = absurd (omega arith)
 
 never-intact : (xs : List (List ℕ)) → settled xs ≡ intact → ⊥
-never-intact [] h = clash cc
-never-intact (x ∷ []) h = clash cc
-never-intact (x ∷ y ∷ ys) h = clash cc
+never-intact [] h = zero-not-one cc
+never-intact (x ∷ []) h = zero-not-one cc
+never-intact (x ∷ y ∷ ys) h = zero-not-one cc
 
 nothing-none : (xs : List (List ℕ)) → settled xs ≡ nothing → xs ≡ []
 nothing-none [] h = refl
-nothing-none (x ∷ []) h = clash cc
-nothing-none (x ∷ y ∷ ys) h = clash cc
+nothing-none (x ∷ []) h = zero-not-one cc
+nothing-none (x ∷ y ∷ ys) h = zero-not-one cc
 
 repaired-one : (xs : List (List ℕ)) (p : List ℕ) → settled xs ≡ repaired p → xs ≡ p ∷ []
-repaired-one [] p h = clash cc
+repaired-one [] p h = zero-not-one cc
 repaired-one (x ∷ []) p h = let e : x ≡ p = cc in ap (λ (q : List ℕ). q ∷ []) e
-repaired-one (x ∷ y ∷ ys) p h = clash cc
+repaired-one (x ∷ y ∷ ys) p h = zero-not-one cc
 
 -- several is said of two or more, with their number and the earliest
 several-more : (xs : List (List ℕ)) → Sorted before xs → (n : ℕ) (q : List ℕ)
     → settled xs ≡ several n q ↔ ((2 ≤ length xs) × (n ≡ length xs) × Earliest (λ ps. In ps xs) q)
-several-more [] sorted n q = (λ h. clash cc, λ h. absurd (omega (arith, h .0)))
-several-more (x ∷ []) sorted n q = (λ h. clash cc, λ h. absurd (omega (arith, h .0)))
+several-more [] sorted n q = (λ h. zero-not-one cc, λ h. absurd (omega (arith, h .0)))
+several-more (x ∷ []) sorted n q = (λ h. zero-not-one cc, λ h. absurd (omega (arith, h .0)))
 several-more (x ∷ y ∷ ys) sorted n q = (
   λ h. let e : x ≡ q = cc in (omega arith, cc, subst (Earliest (λ ps. In ps (x ∷ y ∷ ys))) e (first-earliest sorted)),
   λ h. let d = h .1 in let e = earliest-first sorted (h .2) in cc,
@@ -126,7 +127,7 @@ module _ (c : Crc) (k : Check) (limit : ℕ) (s : List ℕ) where
   -- a repair is by the one candidate, whose positions are positions of the packet
   one-candidate : (p : List ℕ) → verdict c k limit s ≡ repaired p → (passesBoth c k s ≡ false) × (candidates c k limit s ≡ p ∷ [])
   one-candidate p h =
-      let r = unless-intact (repaired p) (λ e. clash cc) h in
+      let r = unless-intact (repaired p) (λ e. zero-not-one cc) h in
       (r .0, repaired-one (candidates c k limit s) p (r .1))
 
   pub repaired-within : (p : List ℕ) → verdict c k limit s ≡ repaired p → All (λ (q : ℕ). q < bits s) p
@@ -205,7 +206,7 @@ module _ (c : Crc) (k : Check) (limit : ℕ) (s : List ℕ) (fit : Fit (c .gener
   pub verdict-nothing : verdict c k limit s ≡ nothing ↔ ((passesBoth c k s ≡ false) × ((ps : List ℕ) → Leads c k limit s ps → ⊥))
   verdict-nothing = (
     λ h.
-        let r = said-of nothing (λ e. clash cc) h in
+        let r = said-of nothing (λ e. zero-not-one cc) h in
         (r .0, λ ps l. in-nothing (rw (nothing-none (leading c k limit s) (r .1)) at (in-leading c k limit s ps .1 l))),
     λ h. says (h .0) (no-member (leading c k limit s) (λ ps i. h .1 ps (in-leading c k limit s ps .0 i))),
   )
@@ -215,7 +216,7 @@ module _ (c : Crc) (k : Check) (limit : ℕ) (s : List ℕ) (fit : Fit (c .gener
       ↔ ((passesBoth c k s ≡ false) × Leads c k limit s p × ((q : List ℕ) → Leads c k limit s q → q ≡ p))
   verdict-repaired p = (
     λ h.
-        let r = said-of (repaired p) (λ e. clash cc) h in
+        let r = said-of (repaired p) (λ e. zero-not-one cc) h in
         let one = repaired-one (leading c k limit s) p (r .1) in
         (r .0, in-leading c k limit s p .0 (rw one (here refl)), λ q l. only-member (rw one at (in-leading c k limit s q .1 l))),
     λ h.
@@ -230,7 +231,7 @@ module _ (c : Crc) (k : Check) (limit : ℕ) (s : List ℕ) (fit : Fit (c .gener
       let more = several-more (leading c k limit s) (leading-sorted c k limit s) n q in
       let leads = earliest-same (in-leading c k limit s) q in (
         λ h.
-            let r = said-of (several n q) (λ e. clash cc) h in
+            let r = said-of (several n q) (λ e. zero-not-one cc) h in
             let m = more .0 (r .1) in
             (r .0, m .0, m .1, leads .0 (m .2)),
         λ h. says (h .0) refl ∙ more .1 (h .1, h .2, leads .1 (h .3)),

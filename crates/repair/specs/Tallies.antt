@@ -13,14 +13,14 @@ use Rattle.patterns.specs.Patterns.{mostPositions, positions}
 use Rattle.repair.specs.declared.Tally.{Tally}
 
 -- the first of some patterns, and the empty one where there is none
-abbrev pub earliest : List (List ℕ) → List ℕ
-earliest [] = []
-earliest (p ∷ ps) = p
+abbrev pub firstOf : List (List ℕ) → List ℕ
+firstOf [] = []
+firstOf (p ∷ ps) = p
 
 -- a tally of some patterns: how many there are, and the first
 pub record Tallied (kept : List (List ℕ)) (t : Tally) : Type 0 where
   pub number : t .count ≡ length kept
-  pub first : positions (t .chosen) ≡ earliest kept
+  pub first : positions (t .chosen) ≡ firstOf kept
 
 -- a pattern that is counted, or not
 abbrev pub added : Bool → List ℕ → List (List ℕ)

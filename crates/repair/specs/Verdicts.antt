@@ -76,4 +76,4 @@ leading c k limit s = sift (λ ps. passesBoth c k (flips s ps)) (packetList c li
 -- the set that stands first of those that meet P: it does, and every other that does comes after it in the order
 pub record Earliest (P : List ℕ → Type 0) (ps : List ℕ) : Type 0 where
   pub meets : P ps
-  pub ahead : (qs : List ℕ) → P qs → (qs ≡ ps → ⊥) → before ps qs ≡ true
+  pub othersAfter : (qs : List ℕ) → P qs → (qs ≡ ps → ⊥) → before ps qs ≡ true

@@ -64,14 +64,17 @@ fn tally_one(t: Tally, ok: bool, pos: &[u16]) -> Tally
         return t;
     }
     let chosen = t.chosen;
-    let count = t.count + 1;
-    if count == 1 {
+    let passing = t.count + 1;
+    if passing == 1 {
         return Tally {
-            count,
+            count: passing,
             chosen: patterns::from_positions(pos),
         };
     }
-    Tally { count, chosen }
+    Tally {
+        count: passing,
+        chosen,
+    }
 }
 
 // Tallies the candidates from the pattern found on.

@@ -49,6 +49,7 @@ fn print_published(published: &[u8]) {
     testkit::print_number(testkit::hash(published), b'\n');
 }
 
+// The packet is lent to be written, though it stays: two shared slices, one of which is handed back, have no proof.
 fn print_told(verdict: Verdict, packet: &mut [u8], out: &[u8]) {
     print_verdict(verdict);
     testkit::print_number(testkit::hash(out), b' ');

@@ -5,7 +5,7 @@ use Prim.Native.Nat.{ℕ}
 use borrow.Author.Needs.{needs}
 use Rattle.repair.specs.Verdicts.{repaired, said, verdict, outputFor}
 use Rattle.repair.specs.declared.Verdict.{Verdict}
-use Rattle.repair.proofs.VerdictLaws.{clash, repaired-within, output-repaired, output-unchanged}
+use Rattle.repair.proofs.VerdictLaws.{zero-not-one, repaired-within, output-repaired, output-unchanged}
 use Rattle.repair.proofs.conclude.Statement.{statement}
 use Rattle.repair.proofs.conclude.Tie as tie
 
@@ -33,7 +33,7 @@ mend-requires c κs =
     (entry t .pre .1, repaired-within (a .crc) (a .check) (a .limit) (a .packet .now) _ (told t (v .v .given .1)))
 
 returns : tie.Need-returns
-returns c = stays (c .before .before) (c .enum-told .given .1) (λ p h. clash cc)
+returns c = stays (c .before .before) (c .enum-told .given .1) (λ p h. zero-not-one cc)
 
 returns-2 : tie.Need-returns-2
 returns-2 c =
@@ -45,10 +45,10 @@ returns-2 c =
     (sym d, m .mend .ensures ∙ sym (output-repaired (a .crc) (a .check) (a .limit) (a .packet .now) _ (a .output .now) d))
 
 returns-3 : tie.Need-returns-3
-returns-3 c = let v = c .before in stays (v .before .before) (v .v2 .given .1) (λ p h. clash cc)
+returns-3 c = let v = c .before in stays (v .before .before) (v .v2 .given .1) (λ p h. zero-not-one cc)
 
 returns-4 : tie.Need-returns-4
-returns-4 c = stays (c .before .before) (c .enum-told2 .given .1) (λ p h. clash cc)
+returns-4 c = stays (c .before .before) (c .enum-told2 .given .1) (λ p h. zero-not-one cc)
 
 pub conclude-spec : {M : Type 1} → statement M
 conclude-spec =
