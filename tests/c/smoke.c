@@ -464,6 +464,12 @@ static void repairs(void)
     EXPECT(verdict[0] == RANGQODA_REPAIRED && memcmp(output, intact, 3) == 0);
 }
 
+/* Flips a bit of three bytes. */
+static void flip(uint8_t *packet, unsigned p)
+{
+    packet[2 - p / 8] = (uint8_t)(packet[2 - p / 8] ^ 1u << p % 8);
+}
+
 static uint8_t earliest[RANGQODA_RECORD_BYTES];
 static uint64_t passing, listed_before;
 
@@ -486,10 +492,10 @@ static void flip_sets(uint8_t *packet, uint8_t *record, unsigned placed, unsigne
         return;
     }
     for (; p < 24; p++) {
-        packet[2 - p / 8] = (uint8_t)(packet[2 - p / 8] ^ 1u << p % 8);
+        flip(packet, p);
         record[2 + 2 * placed] = (uint8_t)p;
         flip_sets(packet, record, placed + 1, p + 1);
-        packet[2 - p / 8] = (uint8_t)(packet[2 - p / 8] ^ 1u << p % 8);
+        flip(packet, p);
     }
 }
 
@@ -507,8 +513,8 @@ static void several_names_the_earliest(void)
         uint8_t record[RANGQODA_RECORD_BYTES] = { 0 };
 
         memcpy(packet, sent, 3);
-        packet[2 - p / 8] = (uint8_t)(packet[2 - p / 8] ^ 1u << p % 8);
-        packet[2 - q / 8] = (uint8_t)(packet[2 - q / 8] ^ 1u << q % 8);
+        flip(packet, p);
+        flip(packet, q);
         passing = listed_before = 0;
         memset(right, 0, sizeof right);
         memset(verdict, 0xAA, sizeof verdict);
@@ -557,9 +563,9 @@ static void no_checksum(void)
         int within = p == q || q == 24 || limit > 1;
 
         memcpy(packet, sent, 3);
-        packet[2 - p / 8] = (uint8_t)(packet[2 - p / 8] ^ 1u << p % 8);
+        flip(packet, p);
         if (q < 24)
-            packet[2 - q / 8] = (uint8_t)(packet[2 - q / 8] ^ 1u << q % 8);
+            flip(packet, q);
         wrong += rangqoda_remainder(RANGQODA_FIVE, 0, 0, packet, 3, &left) != 0;
         while (left != 0 && mark[0] != RANGQODA_MARK_ENDED) {
             if (rangqoda_page(RANGQODA_FIVE, 24, limit, left, step, 32, first, 32, mark, sizeof mark, records, sizeof records,
