@@ -5,6 +5,7 @@ pub mod SortedLaws
 pub mod FollowLaws
 pub mod ListingLaws
 pub mod CountLaws
+pub mod ParityLaws
 pub mod MarkLaws
 pub mod PageLaws
 pub mod PositionLaws
