@@ -1,16 +1,18 @@
 -- The tables of a generator serve the search: its powers are those of x, and its list is the listing.
 use mathlib.Core.Path.{_≡_, sym, ap, subst, _∙_}
 use mathlib.Core.List.{List, [], _∷_}
-use Prim.Native.Nat.{ℕ, _^_, _<_, _≤_}
+use Prim.Native.Nat.{ℕ, _%_, _^_, _<_, _≤_}
 use native.Mathlib.Omega.{arith}
 use native.Mathlib.Nat.{zero-add}
 use lib.Bits.{bitXor}
+use lib.Count.{ones}
 use lib.Dec.{eqb}
 use lib.ListN.{length, getD}
 use Rattle.poly.specs.Polynomial.{rem, powers}
 use Rattle.poly.specs.Fit.{Divisor}
 use Rattle.poly.specs.declared.Generator.{Generator}
 use Rattle.poly.proofs.DivisionLaws.{rem-zero, rem-xor}
+use Rattle.poly.proofs.ParityLaws.{ones-power, ones-rem}
 use Rattle.tables.specs.Tables.{power, values, first}
 use Rattle.tables.proofs.PowerLaws.{power-lt}
 use Rattle.tables.proofs.PeriodLaws.{period-positive, power-again, power-only}
@@ -18,9 +20,10 @@ use Rattle.tables.proofs.FirstLaws.{first-hit, first-least}
 use Rattle.tables.proofs.TableLaws.{length-values, getD-values, length-firstTable, getD-firstTable}
 use Rattle.patterns.specs.Listing.{syndrome, listing, upTo}
 use Rattle.patterns.proofs.SiftLaws.{sift-same}
-use Rattle.search.specs.Search.{xorAll, summing, listed, Told}
+use Rattle.search.specs.Search.{xorAll, summing, listed, Told, OddPowers}
 use Rattle.search.specs.declared.Found.{Found}
 use Rattle.cursor.specs.Cursors.{cursorOf, Listable, Prepared}
+use Rattle.cursor.specs.declared.Cursor.{Cursor}
 
 -- the syndrome of a set of positions is the sum of their powers
 syndrome-sum : (n g : ℕ) → Divisor n g → (ps : List ℕ) → syndrome n g ps ≡ xorAll (power n g) ps
@@ -40,6 +43,15 @@ pub told-listing : (n g : ℕ) → Divisor n g → (l limit s : ℕ) (ahead : Li
     → Told l limit (listing n g l limit s) (ahead (listing n g l limit s)) r pos
 told-listing n g d l limit s ahead r pos h =
     subst (λ (xs : List (List ℕ)). Told l limit xs (ahead xs) r pos) (sym (listing-listed n g d l limit s)) h
+
+-- of a generator with an even count of ones every power has an odd one
+pub odd-powers : {c : Cursor} {pow first : List ℕ} → Prepared c pow first → OddPowers (c .generator .coefficients) pow
+unfolding power
+odd-powers {c} h even p k =
+    let d = h .fit .divisor in
+    ap (λ (x : ℕ). ones x % 2) (h .lookup .known p k)
+    ∙ ones-rem (c .generator .degree) (c .generator .coefficients) (d .low) (d .high) even (2 ^ p)
+    ∙ ap (λ (x : ℕ). x % 2) (ones-power p)
 
 -- powers filled in and tables that are right serve a cursor
 module _ (g : Generator) (s l : ℕ) (pow steps firsts : List ℕ) (h : Listable g l s steps firsts) (filled : pow ≡ values (power (g .degree) (g .coefficients)) l 0) where

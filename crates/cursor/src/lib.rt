@@ -71,7 +71,8 @@ pub fn advance(cursor: Cursor, pow: &[u32], first: &[u16], pos: &mut [u16], coun
     requires { ⌜ Prepared cursor (now pow) (now first) × InFront (length (now pow)) count (now pos) ⌝ }
     ensures { λ r. ⌜ Told (length (now (pow .entry))) (length (now (pos .entry))) (listedBy cursor (length (now (pow .entry))) (length (now (pos .entry)))) (sift (before (take count (now (pos .entry)))) (listedBy cursor (length (now (pow .entry))) (length (now (pos .entry))))) r (now (pos .exit)) ⌝ }
 {
-    search::search_next(pow, first, cursor.period, cursor.syndrome, pos, count)
+    let g = cursor.generator.coefficients;
+    search::search_next(g, pow, first, cursor.period, cursor.syndrome, pos, count)
 }
 
 // The same for a pattern.
@@ -90,7 +91,16 @@ pub fn begin(cursor: Cursor, pow: &[u32], first: &[u16], mark: Mark, pos: &mut [
     ensures { λ r. ⌜ Told (length (now (pow .entry))) (length (now (pos .entry))) (listedBy cursor (length (now (pow .entry))) (length (now (pos .entry)))) (remaining (listedBy cursor (length (now (pow .entry))) (length (now (pos .entry)))) (placeOf mark)) r (now (pos .exit)) ⌝ }
 {
     match mark {
-        Mark::Start => { search::search_first(pow, first, cursor.period, cursor.syndrome, pos) }
+        Mark::Start => {
+            search::search_first(
+                cursor.generator.coefficients,
+                pow,
+                first,
+                cursor.period,
+                cursor.syndrome,
+                pos,
+            )
+        }
         Mark::Ended => Found::Nothing,
         Mark::After(p) => go_on(cursor, pow, first, p, pos),
     }

@@ -21,7 +21,7 @@ differ-parity (suc zero) (suc zero) hx hy = refl
 differ-parity (suc zero) (suc (suc y)) hx hy = absurd (omega arith)
 differ-parity (suc (suc x)) y hx hy = absurd (omega arith)
 
-ones-zero : ones 0 ≡ 0
+pub ones-zero : ones 0 ≡ 0
 unfolding ones
 ones-zero = refl
 

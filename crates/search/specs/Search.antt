@@ -1,10 +1,11 @@
 -- What a search goes through and what it answers, over any powers: the sets of positions whose powers have a given
 -- sum, and the first of them.
-use Prim.Native.Nat.{ℕ, zero, suc, _+_, _-_, _*_, _^_, _≤_, _<_}
+use Prim.Native.Nat.{ℕ, zero, suc, _+_, _-_, _*_, _%_, _^_, _≤_, _<_}
 use mathlib.Core.Path.{_≡_}
-use mathlib.Core.Bool.{Bool, true, false}
+use mathlib.Core.Bool.{Bool, true, false, not, _&&_}
 use mathlib.Core.List.{List, [], _∷_, _++_}
 use lib.Bits.{bitXor}
+use lib.Count.{ones}
 use lib.Dec.{eqb}
 use lib.ListN.{length, getD, take}
 use Rattle.base.specs.Lists.{Ascending}
@@ -97,6 +98,14 @@ pub record Ready (pow first : List ℕ) (period lo u : ℕ) : Type 0 where
   pub index : Indexed n first period
   pub start : lo ≤ length pow
   pub sum : u < 2 ^ n
+
+-- what a generator's count of ones tells of the powers: if it is even, the count of each of them is odd
+abbrev pub OddPowers : ℕ → List ℕ → Type 0
+OddPowers g pow = ones g % 2 ≡ 0 → (p : ℕ) → p < length pow → ones (getD pow p 0) % 2 ≡ 1
+
+-- and so of sets of k positions with the sum u: there are none if the counts k and of u's ones are not both even or both odd
+unfoldable pub ruledOut : ℕ → ℕ → ℕ → Bool
+ruledOut g k u = eqb (ones g % 2) 0 && not (eqb (k % 2) (ones u % 2))
 
 -- what placing k positions from lo on answers, for whatever powers the tables describe
 abbrev pub Placed : List ℕ → List ℕ → ℕ → ℕ → ℕ → ℕ → Bool → List ℕ → Type 0

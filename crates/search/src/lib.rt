@@ -1,6 +1,7 @@
 // The search for the first listed error pattern, and for the first that follows one: all positions but the last are
 // forced, and the last is looked up. `pow` holds the powers of x at the positions below its length, `first` the first
-// position of each remainder. Contracts hold for any powers that the two tables describe.
+// position of each remainder. Contracts hold for any powers that the two tables describe; of the generator only its count
+// of ones is asked.
 ghost use mathlib.Core.Path.{_≡_};
 ghost use Prim.Native.Nat.{ℕ, _+_, _-_, _≤_};
 ghost use lib.ListN.{length, take};
@@ -15,9 +16,11 @@ ghost use Rattle.search.specs.Search.{
   Lookup,
   Nearest,
   NextTold,
+  OddPowers,
   Placed,
   Ready,
   rising,
+  ruledOut,
   summing,
 };
 
@@ -152,15 +155,75 @@ fn resume(pow: &[u32], first: &[u16], period: usize, u: usize, pos: &mut [u16]) 
     place(pow, first, period, p + 1, u, pos)
 }
 
+// Whether no set of `count` positions can have the sum `u`, by what parity tells of a generator whose count of ones is
+// even. It tells nothing of any other.
+fn ruled_out(generator: u64, count: usize, u: usize) -> bool
+    ensures { λ r. ⌜ r ≡ ruledOut generator count u ⌝ }
+{
+    let g = u64::count_ones(generator);
+    if g % 2 == 1 {
+        return false;
+    }
+    let s = usize::count_ones(u) as usize;
+    if count % 2 == s % 2 {
+        return false;
+    }
+    true
+}
+
+// Places as many positions as `pos` has room for, from the first one on, unless their count is ruled out.
+fn place_or_skip(
+    generator: u64,
+    pow: &[u32],
+    first: &[u16],
+    period: usize,
+    u: usize,
+    pos: &mut [u16],
+) -> bool
+    requires { ⌜ Ready (now pow) (now first) period 0 u × OddPowers generator (now pow) ⌝ }
+    ensures { λ r. ⌜ Placed (now (pow .entry)) (now (first .entry)) period (length (now (pos .entry))) 0 u r (now (pos .exit)) ⌝ }
+{
+    if ruled_out(generator, pos.len(), u) {
+        return false;
+    }
+    place(pow, first, period, 0, u, pos)
+}
+
+// Goes on from the positions in `pos`, unless their count is ruled out.
+fn resume_or_skip(
+    generator: u64,
+    pow: &[u32],
+    first: &[u16],
+    period: usize,
+    u: usize,
+    pos: &mut [u16],
+) -> bool
+    requires { ⌜ Ready (now pow) (now first) period 0 u × Ascending (length (now pow)) 0 (now pos) × OddPowers generator (now pow) ⌝ }
+    ensures { λ r. ⌜ ((power : ℕ → ℕ) → Lookup power (now (pow .entry)) (now (first .entry)) period → answer r (now (pos .exit)) ≡ firstAfter power (length (now (pow .entry))) (now (pos .entry)) u) ⌝ }
+{
+    if ruled_out(generator, pos.len(), u) {
+        return false;
+    }
+    resume(pow, first, period, u, pos)
+}
+
 // Rises through the counts from `count` to the length of `pos`.
-fn rise(pow: &[u32], first: &[u16], period: usize, count: usize, u: usize, pos: &mut [u16]) -> Found
-    requires { ⌜ Ready (now pow) (now first) period 0 u × (count ≤ length (now pos) + 1) ⌝ }
+fn rise(
+    generator: u64,
+    pow: &[u32],
+    first: &[u16],
+    period: usize,
+    count: usize,
+    u: usize,
+    pos: &mut [u16],
+) -> Found
+    requires { ⌜ Ready (now pow) (now first) period 0 u × (count ≤ length (now pos) + 1) × OddPowers generator (now pow) ⌝ }
     ensures counted { λ r. ⌜ CountWithin (length (now (pos .entry))) r ⌝ }
     ensures first { λ r. ⌜ ((power : ℕ → ℕ) → Lookup power (now (pow .entry)) (now (first .entry)) period → found r (now (pos .exit)) ≡ headOf (summing power u (rising (length (now (pow .entry))) count (length (now (pos .entry)) + 1 - count)))) ⌝ }
 {
     let mut k = count;
     while k <= pos.len() {
-        if place(pow, first, period, 0, u, &mut pos[..k]) {
+        if place_or_skip(generator, pow, first, period, u, &mut pos[..k]) {
             return Found::At(k);
         }
         k += 1;
@@ -170,20 +233,30 @@ fn rise(pow: &[u32], first: &[u16], period: usize, count: usize, u: usize, pos: 
 
 // The first listed pattern of at most as many positions as `pos` has room for: its count, and its positions in front.
 pub fn search_first(
+    generator: u64,
     pow: &[u32],
     first: &[u16],
     period: u64,
     syndrome: u64,
     pos: &mut [u16],
 ) -> Found
-    requires { ⌜ Ready (now pow) (now first) period 0 syndrome ⌝ }
+    requires { ⌜ Ready (now pow) (now first) period 0 syndrome × OddPowers generator (now pow) ⌝ }
     ensures { λ r. ⌜ FirstTold (now (pow .entry)) (now (first .entry)) period syndrome (length (now (pos .entry))) r (now (pos .exit)) ⌝ }
 {
-    rise(pow, first, period as usize, 0, syndrome as usize, pos)
+    rise(
+        generator,
+        pow,
+        first,
+        period as usize,
+        0,
+        syndrome as usize,
+        pos,
+    )
 }
 
 // The first listed pattern that follows the one in front of `pos`, which need not be listed.
 pub fn search_next(
+    generator: u64,
     pow: &[u32],
     first: &[u16],
     period: u64,
@@ -191,10 +264,11 @@ pub fn search_next(
     pos: &mut [u16],
     count: usize,
 ) -> Found
-    requires { ⌜ Ready (now pow) (now first) period 0 syndrome × (count ≤ length (now pos)) × Ascending (length (now pow)) 0 (take count (now pos)) ⌝ }
+    requires { ⌜ Ready (now pow) (now first) period 0 syndrome × (count ≤ length (now pos)) × Ascending (length (now pow)) 0 (take count (now pos)) × OddPowers generator (now pow) ⌝ }
     ensures { λ r. ⌜ NextTold (now (pow .entry)) (now (first .entry)) period syndrome (length (now (pos .entry))) (take count (now (pos .entry))) r (now (pos .exit)) ⌝ }
 {
-    if resume(
+    if resume_or_skip(
+        generator,
         pow,
         first,
         period as usize,
@@ -204,6 +278,7 @@ pub fn search_next(
         return Found::At(count);
     }
     rise(
+        generator,
         pow,
         first,
         period as usize,

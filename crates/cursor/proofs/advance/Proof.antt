@@ -6,9 +6,14 @@ use lib.ListN.{length, take}
 use Rattle.tables.specs.Tables.{power}
 use Rattle.patterns.specs.Order.{before}
 use Rattle.patterns.specs.Listing.{sift}
-use Rattle.cursor.proofs.LookupLaws.{told-listing}
+use Rattle.cursor.proofs.LookupLaws.{told-listing, odd-powers}
 use Rattle.cursor.proofs.advance.Statement.{statement}
 use Rattle.cursor.proofs.advance.Tie as tie
+
+search-next-requires : tie.Need-search-next-requires
+search-next-requires c κs =
+    let p = c .before .before .before .before .pre in
+    (p .0 .ready, p .1 .0, p .1 .1, odd-powers (p .0))
 
 returns : tie.Need-returns
 returns c =
@@ -17,8 +22,8 @@ returns c =
     let g = s .args .cursor .generator in
     let q : List ℕ = take (s .args .count) (s .args .pos .now) in
     told-listing (g .degree) (g .coefficients) (s .pre .0 .fit .divisor) (length (s .args .pow .now)) (length (s .args .pos .now)) (s .args .cursor .syndrome)
-    (λ (xs : List (List ℕ)). sift (before q) xs) (f .search-next .result) (f .search-next .last .1 .1 .1 .1 .0)
+    (λ (xs : List (List ℕ)). sift (before q) xs) (f .search-next .result) (f .search-next .last .1 .1 .1 .1 .1 .0)
     (f .search-next .ensures (power (g .degree) (g .coefficients)) (s .pre .0 .lookup))
 
 pub advance-spec : {M : Type 1} → statement M
-advance-spec = tie.close (tie.spec (λ c κs. search needs) (λ c. search needs) returns)
+advance-spec = tie.close (tie.spec search-next-requires (λ c. search needs) returns)

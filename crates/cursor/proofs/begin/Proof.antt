@@ -5,10 +5,15 @@ use borrow.Author.Needs.{needs}
 use lib.ListN.{length}
 use Rattle.tables.specs.Tables.{power}
 use Rattle.cursor.specs.Cursors.{listedBy}
-use Rattle.cursor.proofs.LookupLaws.{told-listing}
+use Rattle.cursor.proofs.LookupLaws.{told-listing, odd-powers}
 use Rattle.cursor.proofs.AheadLaws.{told-along, from-start, from-ended, from-after, after-marked}
 use Rattle.cursor.proofs.begin.Statement.{statement}
 use Rattle.cursor.proofs.begin.Tie as tie
+
+search-first-requires : tie.Need-search-first-requires
+search-first-requires c κs =
+    let p = c .before .before .before .before .before .before .pre .0 in
+    (p .ready, odd-powers p)
 
 go-on-requires : tie.Need-go-on-requires
 go-on-requires c κs =
@@ -22,7 +27,7 @@ returns c =
     let g = s .args .cursor .generator in
     let l : ℕ = length (s .args .pow .now) in
     let m : ℕ = length (s .args .pos .now) in
-    let next = f .search-first .last .1 .1 .1 .1 .0 in
+    let next = f .search-first .last .1 .1 .1 .1 .1 .0 in
     told-along l m (listedBy (s .args .cursor) l m) (f .search-first .result) next
     (from-start (listedBy (s .args .cursor) l m) (f .before .before .enum-told .given .1))
     (told-listing (g .degree) (g .coefficients) (s .pre .0 .fit .divisor) l m (s .args .cursor .syndrome) (λ (xs : List (List ℕ)). xs) (f .search-first .result) next
@@ -47,7 +52,7 @@ begin-spec =
     tie.close
     (tie.spec
     (λ c. search needs)
-    (λ c κs. search needs)
+    search-first-requires
     (λ c. search needs)
     (λ c. search needs)
     go-on-requires

@@ -11,34 +11,34 @@ use Rattle.search.proofs.rise.Statement.{statement}
 use Rattle.search.proofs.rise.Tie as tie
 
 abbrev Inv-loop : tie.InvT-loop
-Inv-loop pow first period count u pos₀ k₀ pos k =
+Inv-loop generator pow first period count u pos₀ k₀ pos k =
     (k ≤ length pos₀ + 1) × (length pos ≡ length pos₀)
     × ((power : ℕ → ℕ) → Lookup power pow first period
     → headOf (summing power u (rising (length pow) count (length pos₀ + 1 - count))) ≡ headOf (summing power u (rising (length pow) k (length pos₀ + 1 - k))))
 
 abbrev μ-loop : tie.MeasureT-loop
-μ-loop pow first period count u pos₀ k₀ pos k = length pos₀ + 1 - k
+μ-loop generator pow first period count u pos₀ k₀ pos k = length pos₀ + 1 - k
 
 loop-holds : tie.Need-loop-holds Inv-loop μ-loop
 loop-holds c = (omega arith, refl, λ power t. refl)
 
-slice-aggregate-place : tie.Need-slice-aggregate-place Inv-loop μ-loop
-slice-aggregate-place c = sym (length-take-le (c .before .before .loop .k) (c .before .before .loop .pos) (omega arith))
+slice-aggregate-place-or-skip : tie.Need-slice-aggregate-place-or-skip Inv-loop μ-loop
+slice-aggregate-place-or-skip c = sym (length-take-le (c .before .before .loop .k) (c .before .before .loop .pos) (omega arith))
 
-place-requires : tie.Need-place-requires Inv-loop μ-loop
-place-requires c κs = c .before .before .before .before .before .before .pre .0
+place-or-skip-requires : tie.Need-place-or-skip-requires Inv-loop μ-loop
+place-or-skip-requires c κs = let p = c .before .before .before .before .before .before .pre in (p .0, p .2)
 
 same-length : tie.Need-same-length Inv-loop μ-loop
 same-length c =
     let i = c .before .before .before .before .before .before .loop in
-    let p = c .before .before .before .place in
+    let p = c .before .before .before .place-or-skip in
     length-front (i .pos) (p .last .1 .1 .1 .1 .1 .0) (i .k) (p .kept .1 .1 .1 .1 .1 .0) ∙ i .inv .1
 
 returns : tie.Need-returns Inv-loop μ-loop
 returns c =
     let s = c .before .before .before .before .before .before .before .before .before .before in
     let i = c .before .before .before .before .before .before .loop in
-    let p = c .before .before .before .place in (
+    let p = c .before .before .before .place-or-skip in (
       omega arith,
       λ power t.
           rise-hit power (length (s .args .pow .now)) (s .args .u) (length (s .args .pos .now)) (i .k) (i .pos) (p .last .1 .1 .1 .1 .1 .0) (p .result) (omega arith) (i .inv .1) (p .kept .1 .1 .1 .1 .1 .0) (p .ensures power t) (c .if1 .taken)
@@ -52,7 +52,7 @@ loop-again : tie.Need-loop-again Inv-loop μ-loop
 loop-again c =
     let s = c .before .before .before .before .before .before .before .before .before .before in
     let i = c .before .before .before .before .before .before .loop in
-    let p = c .before .before .before .place in (
+    let p = c .before .before .before .place-or-skip in (
       omega arith,
       length-front (i .pos) (p .last .1 .1 .1 .1 .1 .0) (i .k) (p .kept .1 .1 .1 .1 .1 .0) ∙ i .inv .1,
       λ power t.
@@ -83,8 +83,8 @@ rise-spec =
     μ-loop
     loop-holds
     (λ c. search needs)
-    slice-aggregate-place
-    place-requires
+    slice-aggregate-place-or-skip
+    place-or-skip-requires
     same-length
     returns
     add-k

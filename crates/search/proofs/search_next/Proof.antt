@@ -9,29 +9,29 @@ use Rattle.search.proofs.ToldLaws.{next-same, next-above}
 use Rattle.search.proofs.search_next.Statement.{statement}
 use Rattle.search.proofs.search_next.Tie as tie
 
-slice-aggregate-resume : tie.Need-slice-aggregate-resume
-slice-aggregate-resume c =
+slice-aggregate-resume-or-skip : tie.Need-slice-aggregate-resume-or-skip
+slice-aggregate-resume-or-skip c =
     let s = c .before .before .before .before in
     sym (length-take-le (s .args .count) (s .args .pos .now) (s .pre .1))
 
 returns : tie.Need-returns
 returns c power t =
     let s = c .before .before .before .before .before .before .before .before in
-    let r = c .before .before .before .resume in
-    next-same power (length (s .args .pow .now)) (length (s .args .pos .now)) (s .args .syndrome) (s .args .count) (s .args .pos .now) (r .last .1 .1 .1 .1 .0) (r .result) refl (s .pre .1) (r .kept .1 .1 .1 .1 .0) (r .ensures power t) (c .if1 .taken)
+    let r = c .before .before .before .resume-or-skip in
+    next-same power (length (s .args .pow .now)) (length (s .args .pos .now)) (s .args .syndrome) (s .args .count) (s .args .pos .now) (r .last .1 .1 .1 .1 .1 .0) (r .result) refl (s .pre .1) (r .kept .1 .1 .1 .1 .1 .0) (r .ensures power t) (c .if1 .taken)
 
 returns-2 : tie.Need-returns-2
 returns-2 c power t =
     let s = c .before .before .before .before .before .before .before .before .before .before .before .before in
-    let r = c .before .before .before .before .before .before .before .resume in
+    let r = c .before .before .before .before .before .before .before .resume-or-skip in
     let q = c .before .before .rise in
-    let ys = r .last .1 .1 .1 .1 .0 in
-    next-above power (length (s .args .pow .now)) (length (s .args .pos .now)) (s .args .syndrome) (s .args .count) (s .args .pos .now) ys (r .result) refl (s .pre .1) (r .kept .1 .1 .1 .1 .0) (r .ensures power t)
+    let ys = r .last .1 .1 .1 .1 .1 .0 in
+    next-above power (length (s .args .pow .now)) (length (s .args .pos .now)) (s .args .syndrome) (s .args .count) (s .args .pos .now) ys (r .result) refl (s .pre .1) (r .kept .1 .1 .1 .1 .1 .0) (r .ensures power t)
     (c .before .before .before .before .if1 .left)
     (q .result)
-    (q .last .1 .1 .1 .1 .1 .0)
+    (q .last .1 .1 .1 .1 .1 .1 .0)
     (ys ++ drop (s .args .count) (s .args .pos .now))
-    (length-front (s .args .pos .now) ys (s .args .count) (r .kept .1 .1 .1 .1 .0))
+    (length-front (s .args .pos .now) ys (s .args .count) (r .kept .1 .1 .1 .1 .1 .0))
     _
     (omega arith)
     (q .ensures .0)
@@ -42,7 +42,7 @@ search-next-spec =
     tie.close
     (tie.spec
     (λ c. search needs)
-    slice-aggregate-resume
+    slice-aggregate-resume-or-skip
     (λ c κs. search needs)
     (λ c. search needs)
     returns
