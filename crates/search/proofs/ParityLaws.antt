@@ -1,7 +1,7 @@
 -- What parity tells a search. Where every power has an odd count of ones, the count of a sum of powers is even or odd as their
 -- number is; so a count of positions that is ruled out has no set of the sum looked for.
 use mathlib.Core.Path.{_≡_, refl, sym, ap, _∙_}
-use mathlib.Core.Bool.{Bool, true, not, _&&_, true≢false}
+use mathlib.Core.Bool.{true, true≢false}
 use mathlib.Core.List.{List, []}
 use Prim.Native.Nat.{ℕ, zero, _%_, _<_}
 use native.Mathlib.Omega.{arith}
@@ -10,7 +10,6 @@ use lib.Dec.{eqb}
 use lib.ListN.{length}
 use borrow.Author.Tests.{eqb-true, eq-eqb, ne-eqb}
 use Rattle.base.specs.Lists.{Ascending, ends, next}
-use Rattle.base.proofs.Cases.{by-test}
 use Rattle.poly.proofs.ParityLaws.{ones-zero, ones-xor}
 use Rattle.patterns.specs.Order.{lower}
 use Rattle.patterns.specs.Listing.{choose, sift}
@@ -26,15 +25,13 @@ sum-parity power odd ends = omega (arith, ones-zero)
 sum-parity power odd (next {p = p} {ps = ps} h b a) = omega (arith, sum-parity power odd a, odd p b, ones-xor (power p) (xorAll power ps))
 
 module _ (g k u : ℕ) (out : ruledOut g k u ≡ true) where
-  out-even : ones g % 2 ≡ 0
-  unfolding ruledOut
-  out-even =
-      by-test (eqb (ones g % 2) 0) (eqb-true _ _)
-      (λ e. absurd (true≢false (sym out ∙ ap (λ (b : Bool). b && not (eqb (k % 2) (ones u % 2))) e)))
-
   out-apart : k % 2 ≡ ones u % 2 → ⊥
   unfolding ruledOut
-  out-apart h = true≢false (sym out ∙ rw (eq-eqb _ _ out-even, eq-eqb _ _ h) refl)
+  out-apart h = true≢false (sym out ∙ rw (eq-eqb _ _ h) refl)
+
+  out-even : ones g % 2 ≡ 0
+  unfolding ruledOut
+  out-even = eqb-true _ _ (rw (ne-eqb (k % 2) (ones u % 2) out-apart) at out)
 
   module _ {power : ℕ → ℕ} {pow first : List ℕ} {period : ℕ} (t : Lookup power pow first period) (odd : OddPowers g pow) where
     none-summing : summing power u (choose (length pow) k zero) ≡ []

@@ -105,7 +105,7 @@ OddPowers g pow = ones g % 2 ≡ 0 → (p : ℕ) → p < length pow → ones (ge
 
 -- and so of sets of k positions with the sum u: there are none if the counts k and of u's ones are not both even or both odd
 unfoldable pub ruledOut : ℕ → ℕ → ℕ → Bool
-ruledOut g k u = eqb (ones g % 2) 0 && not (eqb (k % 2) (ones u % 2))
+ruledOut g k u = not (eqb (k % 2) (ones u % 2)) && eqb (ones g % 2) 0
 
 -- what placing k positions from lo on answers, for whatever powers the tables describe
 abbrev pub Placed : List ℕ → List ℕ → ℕ → ℕ → ℕ → ℕ → Bool → List ℕ → Type 0

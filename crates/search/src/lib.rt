@@ -160,12 +160,12 @@ fn resume(pow: &[u32], first: &[u16], period: usize, u: usize, pos: &mut [u16]) 
 fn ruled_out(generator: u64, count: usize, u: usize) -> bool
     ensures { λ r. ⌜ r ≡ ruledOut generator count u ⌝ }
 {
-    let g = u64::count_ones(generator);
-    if g % 2 == 1 {
-        return false;
-    }
     let s = usize::count_ones(u) as usize;
     if count % 2 == s % 2 {
+        return false;
+    }
+    let g = u64::count_ones(generator);
+    if g % 2 == 1 {
         return false;
     }
     true
