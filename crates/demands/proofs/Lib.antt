@@ -4,5 +4,6 @@ pub mod Demand3
 pub mod PlainCalls
 pub mod OneAnswer
 pub mod NoChecksum
+pub mod Parity
 pub mod MadePackets
 pub mod WorkedRows
