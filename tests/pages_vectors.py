@@ -181,6 +181,19 @@ def every_mark():
         five.add(16, 2, 1, mark=mark, room=9)
 
 
+def every_mark_for_every_syndrome():
+    """Generators with an even number of ones (9, 15, 17) and with an odd one: a page after each pattern, whatever its count, where
+    those of one parity are listed or those of both."""
+    for generator, bits in ((9, 7), (11, 7), (13, 6), (15, 6), (17, 6), (19, 6)):
+        group = Group(generator)
+        for count in range(5):
+            for mark in combinations(range(bits), count):
+                group.add(bits, 4, 0, span=2 ** degree_of(generator), mark=mark, calls=1)
+    for syndrome in range(2 ** degree_of(9)):
+        assert {len(p) % 2 for p in listed(9, 7, 4, syndrome)} <= {syndrome.bit_count() % 2}
+        assert {len(p) % 2 for p in listed(11, 7, 4, syndrome)} == {0, 1}
+
+
 def long_packets():
     """The longest packets, and lists of which each last position is looked up in large tables."""
     five = Group(FIVE)
@@ -249,6 +262,7 @@ worked_by_hand()
 every_small_list()
 joined_pages()
 every_mark()
+every_mark_for_every_syndrome()
 long_packets()
 refused_in_order()
 refused_at_the_edges()

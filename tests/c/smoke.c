@@ -420,6 +420,58 @@ static void pages(void)
                          &written) == RANGQODA_REFUSED_LIMIT);
 }
 
+/* Writes the record of a set of positions below 8, which are the bits of a byte: 0 where they are more than four. */
+static int record_of(unsigned set, uint8_t *record)
+{
+    memset(record, 0, RANGQODA_RECORD_BYTES);
+    for (unsigned p = 0; p < 8; p++)
+        if (set >> p & 1) {
+            if (record[0] == RANGQODA_MOST_POSITIONS)
+                return 0;
+            record[2 + 2 * record[0]] = (uint8_t)p;
+            record[0]++;
+        }
+    return 1;
+}
+
+/* A generator with an even number of ones and one with an odd number, every syndrome, after every set: the next record is the
+   lowest of all that come after the mark and leave the syndrome. Records of equal length stand in the list's order. */
+static void after_every_mark(void)
+{
+    static const uint64_t generators[2] = { 9, 11 };
+    uint8_t mark[RANGQODA_MARK_BYTES], next[RANGQODA_RECORD_BYTES], other[RANGQODA_RECORD_BYTES];
+    uint8_t output[RANGQODA_RECORD_BYTES];
+    uint64_t period, written, wrong = 0;
+    size_t used;
+
+    for (unsigned k = 0; k < 2 * 8 * 256; k++) {
+        uint64_t generator = generators[k / 2048], syndrome = k / 256 % 8;
+        int found = 0;
+
+        if (!record_of(k % 256, mark))
+            continue;
+        for (unsigned set = 0; set < 256; set++) {
+            uint8_t packet = (uint8_t)set;
+
+            if (!record_of(set, other) || divided(generator, 3, 0, 0, &packet, 1) != syndrome)
+                continue;
+            if (memcmp(other, mark, sizeof other) > 0 && (!found || memcmp(other, next, sizeof other) < 0)) {
+                memcpy(next, other, sizeof next);
+                found = 1;
+            }
+        }
+        memset(output, 0, sizeof output);
+        wrong += rangqoda_tables(generator, step, 8, first, 8, &period) != RANGQODA_ACCEPTED;
+        wrong += rangqoda_page(generator, 8, 4, syndrome, step, 8, first, 8, mark, sizeof mark, output, sizeof output, &used,
+                               &written) != RANGQODA_ACCEPTED;
+        if (found)
+            wrong += written == 0 || memcmp(output, next, 1 + 2u * next[0]) != 0;
+        else
+            wrong += written != 0 || mark[0] != RANGQODA_MARK_ENDED;
+    }
+    EXPECT(wrong == 0);
+}
+
 static void repairs(void)
 {
     static const uint8_t intact[3] = { 0xFF, 0xFF, 0x05 };
@@ -622,6 +674,7 @@ int main(void)
     intact();
     tables();
     pages();
+    after_every_mark();
     repairs();
     several_names_the_earliest();
     no_checksum();

@@ -800,6 +800,39 @@ fn page_from_every_mark_of_a_short_length() {
     }
 }
 
+/// Every generator of degree 3 to 6 and every syndrome, 0 too: a page from the start and after each pattern, listed or not. Where
+/// the generator has an even number of ones, half of these marks have a count that no listed pattern has.
+#[test]
+fn page_from_every_mark_for_every_syndrome() {
+    let mut random = Random::new(22);
+    let (mut of_one_parity, mut of_both) = (0, 0);
+    for generator in (9..128).step_by(2) {
+        let n = reference::degree(generator);
+        let length = n + 2;
+        let tables = reference::tables_of(generator);
+        let list = |syndrome| reference::list(generator, length, 4, syndrome).to_vec();
+        let mut marks: Vec<Mark> = (0..1 << n).flat_map(list).map(Mark::After).collect();
+        marks.push(Mark::Start);
+        for syndrome in 0..1 << n {
+            let odd = list(syndrome).iter().filter(|pattern| pattern.len() % 2 == 1).count();
+            let even = list(syndrome).len() - odd;
+            if generator.count_ones() % 2 == 0 {
+                assert_eq!(if syndrome.count_ones() % 2 == 0 { odd } else { even }, 0);
+                of_one_parity += 1;
+            } else if odd > 0 && even > 0 {
+                of_both += 1;
+            }
+            let settings = Settings { generator, length, limit: 4, syndrome, tables: tables.clone() };
+            for mark in &marks {
+                let len = random.within(9, 60);
+                let lent = PageLent::new(mark_bytes(mark), random.bytes(len));
+                assert_eq!(compare_page(&settings.call(), &lent), 0);
+            }
+        }
+    }
+    assert!(of_one_parity > 1_000 && of_both > 1_000, "{of_one_parity} {of_both}");
+}
+
 /// A sequence of page calls: one list, one mark that only accepted calls move, tables and outputs that differ from call to
 /// call, refused calls among them.
 #[test]
