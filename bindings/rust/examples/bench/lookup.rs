@@ -51,14 +51,26 @@ impl Lookup {
         self.rows.iter().map(|row| row.next).collect()
     }
 
-    /// Every pattern of at most `limit` positions below `length` with this syndrome.
-    pub fn patterns(&self, syndrome: u32, length: usize, limit: usize, found: &mut impl FnMut(&[u16])) {
-        if syndrome == 0 {
-            found(&[]);
-        }
-        for count in 1..=limit {
+    /// The counts up to `limit` that parity does not rule out. The paper tries them all; an earlier one of its authors, "Enhanced
+    /// CRC-Based Correction of Multiple Errors with Candidate Validation" (Signal Processing: Image Communication 99, 2021), does not.
+    pub fn counts_by_parity(&self, syndrome: u32, limit: usize) -> impl Iterator<Item = usize> {
+        let even = self.generator.count_ones() % 2 == 0;
+        (0..=limit).filter(move |&count| !even || count % 2 == syndrome.count_ones() as usize % 2)
+    }
+
+    /// Every pattern of so many positions below `length`, for each of the counts, with this syndrome.
+    pub fn patterns(
+        &self,
+        syndrome: u32,
+        length: usize,
+        counts: impl Iterator<Item = usize>,
+        found: &mut impl FnMut(&[u16]),
+    ) {
+        for count in counts {
             let mut positions = [0; 4];
             match count {
+                0 if syndrome == 0 => found(&[]),
+                0 => (),
                 1 => self.one(syndrome, length, found),
                 _ => self.more(syndrome, 0, length, &mut positions[..count], 0, found),
             }
@@ -239,8 +251,8 @@ impl Reader {
             found.passing += 1;
         };
         match summing {
-            Summing::Nothing => self.lookup.patterns(syndrome.into(), 8 * packet.len(), limit, &mut note),
-            Summing::Anew => self.lookup.patterns(syndrome.into(), 8 * packet.len(), limit, &mut |positions| {
+            Summing::Nothing => self.lookup.patterns(syndrome.into(), 8 * packet.len(), 0..=limit, &mut note),
+            Summing::Anew => self.lookup.patterns(syndrome.into(), 8 * packet.len(), 0..=limit, &mut |positions| {
                 flip(copy, positions);
                 if passes(total(&copy[range.clone()])) {
                     note(positions);
@@ -256,7 +268,7 @@ impl Reader {
                         weights[8 * (last - place) + bit] = if set { -weight } else { weight };
                     }
                 }
-                self.lookup.patterns(syndrome.into(), 8 * packet.len(), limit, &mut |positions| {
+                self.lookup.patterns(syndrome.into(), 8 * packet.len(), 0..=limit, &mut |positions| {
                     let change: i32 = positions.iter().map(|&position| weights[usize::from(position) % 4096]).sum();
                     if passes(sent + i64::from(change)) {
                         note(positions);

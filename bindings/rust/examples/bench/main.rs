@@ -6,7 +6,7 @@ mod lookup;
 
 use lookup::{Found, Lookup, Reader, Summing, TableCrc};
 use rangqoda::{
-    catalogue::CRC_16_XMODEM as CRC, remainder, seal, stamp, Mark, Tables, Verdict, CCITT, FIVE, NO_CHECKSUM,
+    catalogue::CRC_16_XMODEM as CRC, remainder, seal, stamp, Mark, Pattern, Tables, Verdict, CCITT, FIVE, NO_CHECKSUM,
 };
 use std::hint::black_box;
 use std::ops::Range;
@@ -80,27 +80,59 @@ fn verifying(tables: &Tables) -> Duration {
     times[0]
 }
 
+/// The syndrome of so many random positions. With CCITT its count of ones is even or odd as their number is.
+fn some_syndrome(random: &mut Random, positions: usize, length: usize) -> u64 {
+    let mut packet = vec![0; length / 8];
+    for position in random.positions(positions, length) {
+        packet[position / 8] ^= 1 << (position % 8);
+    }
+    remainder(CRC, &packet).unwrap()
+}
+
+fn parity(syndrome: u64) -> &'static str {
+    ["even", "odd"][syndrome.count_ones() as usize % 2]
+}
+
+/// Writes the records of the method's patterns, and gives the bytes used.
+fn write_list(
+    lookup: &Lookup,
+    syndrome: u32,
+    length: usize,
+    counts: impl Iterator<Item = usize>,
+    output: &mut [u8],
+) -> usize {
+    let mut used = 0;
+    lookup.patterns(syndrome, length, counts, &mut |positions| {
+        let record = &mut output[used..used + 1 + 2 * positions.len()];
+        record[0] = positions.len() as u8;
+        for (place, position) in record[1..].chunks_exact_mut(2).zip(positions) {
+            place.copy_from_slice(&position.to_be_bytes());
+        }
+        used += record.len();
+    });
+    used
+}
+
 /// The whole list, in one page and in pages of 64 KiB, beside the method's.
 fn lists(random: &mut Random, tables: &Tables, lookup: &Lookup, verifying: Duration) {
-    println!("The whole list, as records (CCITT). Milliseconds.");
+    println!("The whole list, as records (CCITT), by the syndrome's count of ones. Milliseconds.");
     println!(
-        "    L  N  patterns  one page  verifying tables  64 KiB pages    method  ratio of one page  of 64 KiB pages"
+        "    L  N  ones  patterns  one page  verifying tables  64 KiB pages    method  ratio of one page  of 64 KiB pages  \
+         method, by parity  ratio of one page"
     );
-    for (length, limit, rounds) in [(4096, 2, 20), (4096, 3, 7), (1024, 4, 3)] {
-        let mut packet = vec![0; length / 8];
-        for position in random.positions(limit, length) {
-            packet[position / 8] ^= 1 << (position % 8);
-        }
-        let syndrome = remainder(CRC, &packet).unwrap();
+    for (length, limit, positions, rounds) in
+        [(4096, 2, 2, 20), (4096, 3, 3, 7), (1024, 3, 3, 7), (1024, 4, 4, 3), (1024, 4, 3, 7)]
+    {
+        let syndrome = some_syndrome(random, positions, length);
         let patterns = tables.patterns(length, limit, syndrome).unwrap().count();
         let bytes = 9 * patterns.max(1);
 
         struct State {
             output: Vec<u8>,
             page: Vec<u8>,
-            used: [usize; 3],
+            used: [usize; 4],
         }
-        let mut state = State { output: vec![0; bytes], page: vec![0; 1 << 16], used: [0; 3] };
+        let mut state = State { output: vec![0; bytes], page: vec![0; 1 << 16], used: [0; 4] };
         let clear = |state: &mut State| {
             state.output.fill(0);
             state.page.fill(0);
@@ -119,41 +151,67 @@ fn lists(random: &mut Random, tables: &Tables, lookup: &Lookup, verifying: Durat
                 mark = page.next;
             }
         };
+        let syndrome = syndrome as u32;
         let mut method = |state: &mut State| {
-            let mut used = 0;
-            lookup.patterns(syndrome as u32, length, limit, &mut |positions| {
-                let record = &mut state.output[used..used + 1 + 2 * positions.len()];
-                record[0] = positions.len() as u8;
-                for (place, position) in record[1..].chunks_exact_mut(2).zip(positions) {
-                    place.copy_from_slice(&position.to_be_bytes());
-                }
-                used += record.len();
-            });
-            state.used[2] = used;
+            state.used[2] = write_list(lookup, syndrome, length, 0..=limit, &mut state.output);
+        };
+        let mut by_parity = |state: &mut State| {
+            let counts = lookup.counts_by_parity(syndrome, limit);
+            state.used[3] = write_list(lookup, syndrome, length, counts, &mut state.output);
         };
 
         // the same records, byte for byte
         one_page(&mut state);
         let records = state.output.clone();
-        clear(&mut state);
-        method(&mut state);
-        assert!(state.output == records, "the lists differ");
+        for other in [&mut method as &mut dyn FnMut(&mut State), &mut by_parity] {
+            clear(&mut state);
+            other(&mut state);
+            assert!(state.output == records, "the lists differ");
+        }
 
-        let times = race(rounds, &mut state, clear, &mut [&mut one_page, &mut pages, &mut method]);
+        let times = race(rounds, &mut state, clear, &mut [&mut one_page, &mut pages, &mut method, &mut by_parity]);
         assert!(state.used.iter().all(|&used| used == state.used[0]));
         println!(
-            "{length:5}  {limit}  {patterns:8}  {:8.3}  {:15.1}%  {:12.3}  {:8.3}  {:17.3}  {:15.3}",
+            "{length:5}  {limit}  {:>4}  {patterns:8}  {:8.3}  {:15.1}%  {:12.3}  {:8.3}  {:17.3}  {:15.3}  {:17.3}  {:17.3}",
+            parity(syndrome.into()),
             micros(times[0]) / 1e3,
             share(verifying, times[0]),
             micros(times[1]) / 1e3,
             micros(times[2]) / 1e3,
             ratio(times[2], times[0]),
             ratio(times[2], times[1]),
+            micros(times[3]) / 1e3,
+            ratio(times[3], times[0]),
         );
     }
 }
 
-/// Packets of random bytes, stamped and sealed, with as many bits flipped as the limit.
+/// A page after a mark whose count of positions no listed pattern can have: the first of three and of four positions.
+fn resumed(random: &mut Random, tables: &Tables, verifying: Duration) {
+    println!("A page of 9 bytes after a mark (CCITT, L of 1,024, N of 4). Microseconds.");
+    println!("ones  mark       library  verifying tables");
+    for (positions, mark) in [(4, &[0, 1, 2][..]), (3, &[0, 1, 2, 3])] {
+        let syndrome = some_syndrome(random, positions, 1024);
+        let after = Mark::After(Pattern::new(mark).unwrap());
+        let times = race(
+            7,
+            &mut [0; 9],
+            |_| (),
+            &mut [&mut |output| {
+                black_box(tables.page(1024, 4, syndrome, after, output).unwrap());
+            }],
+        );
+        println!(
+            "{:>4}  {:9}  {:8.1}  {:15.1}%",
+            parity(syndrome),
+            format!("{mark:?}"),
+            micros(times[0]),
+            share(verifying, times[0])
+        );
+    }
+}
+
+/// Packets of random bytes, stamped and sealed, with so many bits flipped.
 fn damaged(random: &mut Random, packets: usize, len: usize, flips: usize) -> Vec<Vec<u8>> {
     (0..packets)
         .map(|_| {
@@ -179,9 +237,17 @@ fn same(verdict: Verdict, found: Found) -> bool {
     }
 }
 
-/// What is repaired: bytes of a packet, limit, number of packets; and in how many rounds.
-const REPAIRS: [(usize, usize, usize, usize); 6] =
-    [(64, 1, 200, 7), (64, 2, 200, 7), (64, 3, 100, 7), (512, 1, 200, 7), (512, 2, 100, 7), (512, 3, 5, 5)];
+/// What is repaired: bytes of a packet, limit, bits flipped, number of packets; and in how many rounds.
+const REPAIRS: [(usize, usize, usize, usize, usize); 8] = [
+    (64, 1, 1, 200, 7),
+    (64, 2, 2, 200, 7),
+    (64, 3, 3, 100, 7),
+    (64, 4, 3, 5, 5),
+    (64, 4, 4, 5, 5),
+    (512, 1, 1, 200, 7),
+    (512, 2, 2, 100, 7),
+    (512, 3, 3, 5, 5),
+];
 
 /// Repairs a packet into an output.
 type Repair<'a> = &'a dyn Fn(&[u8], &mut [u8]);
@@ -215,10 +281,10 @@ fn compare_repairs(
 }
 
 fn repairs(random: &mut Random, tables: &Tables, reader: &Reader, verifying: Duration) {
-    println!("Repair of damaged packets (CCITT; as many bits flipped as the limit). Packets a second.");
-    println!("bytes  N   library  verifying tables    method     ratio  method, sums corrected     ratio");
-    for (len, limit, packets, rounds) in REPAIRS {
-        let received = damaged(random, packets, len, limit);
+    println!("Repair of damaged packets (CCITT). Packets a second.");
+    println!("bytes  N  flipped   library  verifying tables    method     ratio  method, sums corrected     ratio");
+    for (len, limit, flips, packets, rounds) in REPAIRS {
+        let received = damaged(random, packets, len, flips);
         let range = 0..len - 2;
         for packet in &received {
             compare_repairs(tables, reader, range.clone(), limit, packet, Summing::Anew);
@@ -236,7 +302,7 @@ fn repairs(random: &mut Random, tables: &Tables, reader: &Reader, verifying: Dur
         let times = race_repairs(rounds, &received, [&library, &anew, &corrected]);
         let rate = |time: Duration| packets as f64 / time.as_secs_f64();
         println!(
-            "{len:5}  {limit}  {:8.0}  {:15.1}%  {:8.0}  {:8.4}  {:22.0}  {:8.4}",
+            "{len:5}  {limit}  {flips:7}  {:8.0}  {:15.1}%  {:8.0}  {:8.4}  {:22.0}  {:8.4}",
             rate(times[0]),
             share(verifying * packets as u32, times[0]),
             rate(times[1]),
@@ -251,9 +317,9 @@ fn repairs(random: &mut Random, tables: &Tables, reader: &Reader, verifying: Dur
 /// same packets with their checksum.
 fn unchecked(random: &mut Random, tables: &Tables, reader: &Reader) {
     println!("The same without a checksum.");
-    println!("bytes  N   library  with the checksum     ratio    method     ratio");
-    for (len, limit, packets, rounds) in REPAIRS {
-        let received = damaged(random, packets, len, limit);
+    println!("bytes  N  flipped   library  with the checksum     ratio    method     ratio");
+    for (len, limit, flips, packets, rounds) in REPAIRS {
+        let received = damaged(random, packets, len, flips);
         for packet in &received {
             compare_repairs(tables, reader, NO_CHECKSUM, limit, packet, Summing::Nothing);
         }
@@ -269,7 +335,7 @@ fn unchecked(random: &mut Random, tables: &Tables, reader: &Reader) {
         let times = race_repairs(rounds, &received, [&library, &weighing, &method]);
         let rate = |time: Duration| packets as f64 / time.as_secs_f64();
         println!(
-            "{len:5}  {limit}  {:8.0}  {:17.0}  {:8.4}  {:8.0}  {:8.4}",
+            "{len:5}  {limit}  {flips:7}  {:8.0}  {:17.0}  {:8.4}  {:8.0}  {:8.4}",
             rate(times[0]),
             rate(times[1]),
             ratio(times[1], times[0]),
@@ -339,6 +405,8 @@ fn main() {
     println!("Verifying the tables (CCITT), in each page and repair: {:.1} microseconds.", micros(verifying));
     println!();
     lists(random, &tables, &reader.lookup, verifying);
+    println!();
+    resumed(random, &tables, verifying);
     println!();
     repairs(random, &tables, &reader, verifying);
     println!();
