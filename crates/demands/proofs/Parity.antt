@@ -13,17 +13,20 @@ use Rattle.base.specs.Outcome.{accepted}
 use Rattle.base.proofs.JudgeLaws.{judge-value}
 use Rattle.poly.specs.Polynomial.{rem, powers}
 use Rattle.poly.proofs.ParityLaws.{ones-xor}
-use Rattle.packet.specs.Packet.{bits, remainder}
+use Rattle.packet.specs.Packet.{bits, remainder, flips}
+use Rattle.packet.specs.Calls.{remainderCall}
 use Rattle.packet.specs.declared.Crc.{Crc}
 use Rattle.checksum.specs.declared.Check.{Check}
+use Rattle.patterns.specs.Listing.{syndrome}
 use Rattle.patterns.specs.Records.{records}
 use Rattle.patterns.specs.Sequences.{joined, reported}
-use Rattle.patterns.proofs.ParityLaws.{listed-parity, counts-differ-by-even}
+use Rattle.patterns.proofs.ParityLaws.{count-parity, listed-parity, counts-differ-by-even}
 use Rattle.pages.specs.Sequences.{Lending, acceptedCalls}
 use Rattle.repair.specs.Verdicts.{packetList, Said, repaired, several, verdict}
 use Rattle.repair.specs.Calls.{repairCall, repairConditions}
 use Rattle.repair.proofs.VerdictLaws.{verdict-repaired, verdict-several}
 use Rattle.demands.specs.Demand3.{Supposed, repairWith}
+use Rattle.demands.proofs.Demand2.{flips-add}
 use Rattle.demands.proofs.Demand3.{fit-of, pages-joined}
 
 all-taken : {A : Type 0} {P : A → Type 0} (xs : List A) (k : ℕ) → ((x : A) → In x xs → P x) → All P (take k xs)
@@ -33,6 +36,19 @@ all-taken (x ∷ xs) (suc k) h = each (h x (here refl)) (all-taken xs k (λ y i.
 
 -- an accepted packet, initial and final value, range and limit, and a generator with an even count of ones
 module _ (c : Crc) (k : Check) (limit : ℕ) (s : List ℕ) (supposed : Supposed c k limit s) (even : ones (c .generator .coefficients) % 2 ≡ 0) where
+  -- flipping bits of the packet adds their number to the count of ones that the call's remainder has, modulo 2
+  pub flips-parity : (r : ℕ) → remainderCall c s ≡ accepted r → (ps : List ℕ) → All (λ (p : ℕ). p < bits s) ps
+      → (q : ℕ) × (remainderCall c (flips s ps) ≡ accepted q) × (ones q % 2 ≡ (ones r + length ps) % 2)
+  unfolding syndrome
+  flips-parity r h ps within =
+      let n : ℕ = c .generator .degree in
+      let g : ℕ = c .generator .coefficients in
+      let added : ℕ = rem n g (powers ps) in (
+        bitXor r added,
+        flips-add c (supposed .numbered) s (supposed .bytes) r h ps within,
+        omega (arith, ones-xor r added, count-parity n g (fit-of supposed .divisor) even ps),
+      )
+
   -- a listed pattern's count of positions and the remainder's count of ones are both even or both odd
   pub the-counts : (ps : List ℕ) → In ps (packetList c limit s) → length ps % 2 ≡ ones (remainder c s) % 2
   the-counts = listed-parity (c .generator .degree) (c .generator .coefficients) (fit-of supposed .divisor) even (bits s) limit (remainder c s)
