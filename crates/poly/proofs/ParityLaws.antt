@@ -1,6 +1,6 @@
--- Counts of ones, modulo 2: a sum has as many as its terms together, and a remainder as many as what was divided, where the
--- divisor's count is even.
-use mathlib.Core.Path.{_≡_, refl, sym, ap, ap₂, _∙_}
+-- Counts of ones, modulo 2: a sum has as many as its terms together; and where the divisor's count is even, a remainder has as
+-- many as what was divided.
+use mathlib.Core.Path.{_≡_, refl, ap, ap₂, _∙_}
 use mathlib.Core.List.{List, [], _∷_}
 use Prim.Native.Nat.{ℕ, zero, suc, _+_, _*_, _/_, _%_, _^_, _<_, _≤_}
 use native.Mathlib.Omega.{arith}
@@ -53,7 +53,7 @@ ones-power p =
     let e : 2 ^ p ≡ 1 * 2 ^ p + 0 = omega arith in
     ap ones e ∙ ones-cat p 1 0 (pow-pos p)
 
--- powers of x at so many places, each as often as it stands there
+-- the sum of powers of x at so many places, which need not differ
 pub ones-powers : (ps : List ℕ) → ones (powers ps) % 2 ≡ length ps % 2
 unfolding powers
 ones-powers [] = ap (λ (x : ℕ). x % 2) ones-zero

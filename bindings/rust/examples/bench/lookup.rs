@@ -54,8 +54,8 @@ impl Lookup {
     /// The counts up to `limit` that parity does not rule out. The paper tries them all; an earlier one of its authors, "Enhanced
     /// CRC-Based Correction of Multiple Errors with Candidate Validation" (Signal Processing: Image Communication 99, 2021), does not.
     pub fn counts_by_parity(&self, syndrome: u32, limit: usize) -> impl Iterator<Item = usize> {
-        let even = self.generator.count_ones() % 2 == 0;
-        (0..=limit).filter(move |&count| !even || count % 2 == syndrome.count_ones() as usize % 2)
+        let odd = self.generator.count_ones() % 2 == 1;
+        (0..=limit).filter(move |&count| odd || count % 2 == syndrome.count_ones() as usize % 2)
     }
 
     /// Every pattern of so many positions below `length`, for each of the counts, with this syndrome.
