@@ -170,6 +170,12 @@
  *    64 bytes   0.1 ms    0.1 ms    0.3 ms    0.03 s
  *   512 bytes   0.1 ms    0.1 ms    0.03 s    30 s
  *
+ * RANGQODA_CCITT, as any generator with an even number of ones, can leave a
+ * remainder with an even (odd) number of ones only for an even (odd) number of
+ * flipped bits, and other numbers are not tried. Where the ones of the
+ * remainder are odd and N is even, or the other way round, the time is thus
+ * that of N - 1.
+ *
  * A call cannot be interrupted. Small pages do not bound its time: a page
  * searches until its next record or the end of the list.
  *
