@@ -170,11 +170,13 @@
  *    64 bytes   0.1 ms    0.1 ms    0.3 ms    0.03 s
  *   512 bytes   0.1 ms    0.1 ms    0.03 s    30 s
  *
- * RANGQODA_CCITT, as any generator with an even number of ones, can leave a
- * remainder with an even (odd) number of ones only for an even (odd) number of
- * flipped bits, and other numbers are not tried. Where the ones of the
- * remainder are odd and N is even, or the other way round, the time is thus
- * that of N - 1.
+ * With a generator that has an even number of ones, as RANGQODA_CCITT, an even
+ * number of flipped bits leaves a remainder with an even number of ones, and an
+ * odd number of them one with an odd number, if the packet passed the CRC.
+ * Numbers of flips that this rules out are not tried: where of N and the
+ * remainder's number of ones one is even and the other odd, the time is that of
+ * N - 1 (at N = 1, of verifying the tables). Where both are even or both odd,
+ * the list has about 2 L^N/(N! 2^n) patterns.
  *
  * A call cannot be interrupted. Small pages do not bound its time: a page
  * searches until its next record or the end of the list.

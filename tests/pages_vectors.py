@@ -182,8 +182,8 @@ def every_mark():
 
 
 def every_mark_for_every_syndrome():
-    """Generators with an even number of ones (9, 15, 17) and with an odd one: a page after each pattern, whatever its count, where
-    those of one parity are listed or those of both."""
+    """Generators with an even number of ones (9, 15, 17) and with an odd number: a page after each pattern, whatever its count. With
+    the former one list has even counts only, or odd ones; with the latter both."""
     for generator, bits in ((9, 7), (11, 7), (13, 6), (15, 6), (17, 6), (19, 6)):
         group = Group(generator)
         for count in range(5):

@@ -420,7 +420,7 @@ static void pages(void)
                          &written) == RANGQODA_REFUSED_LIMIT);
 }
 
-/* Writes the record of a set of positions below 8, which are the bits of a byte: 0 where they are more than four. */
+/* Writes the record of a set of positions below 8, which are the bits of a byte. Returns 0 where they are more than four. */
 static int record_of(unsigned set, uint8_t *record)
 {
     memset(record, 0, RANGQODA_RECORD_BYTES);
@@ -434,8 +434,9 @@ static int record_of(unsigned set, uint8_t *record)
     return 1;
 }
 
-/* A generator with an even number of ones and one with an odd number, every syndrome, after every set: the next record is the
-   lowest of all that come after the mark and leave the syndrome. Records of equal length stand in the list's order. */
+/* A generator with an even number of ones and one with an odd number, every syndrome, after every set of at most four positions:
+   the next record is the lowest of all that come after the mark and leave the syndrome. Padded with zeros, records compare as the
+   list's order does. */
 static void after_every_mark(void)
 {
     static const uint64_t generators[2] = { 9, 11 };

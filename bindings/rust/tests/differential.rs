@@ -800,8 +800,8 @@ fn page_from_every_mark_of_a_short_length() {
     }
 }
 
-/// Every generator of degree 3 to 6 and every syndrome, 0 too: a page from the start and after each pattern, listed or not. Where
-/// the generator has an even number of ones, half of these marks have a count that no listed pattern has.
+/// Every accepted generator of degree 3 to 6 and every syndrome, 0 too: a page from the start and after each pattern, listed or not.
+/// Where the generator has an even number of ones, half of the calls after a pattern have one of a count that parity rules out.
 #[test]
 fn page_from_every_mark_for_every_syndrome() {
     let mut random = Random::new(22);

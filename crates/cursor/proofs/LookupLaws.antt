@@ -12,7 +12,7 @@ use Rattle.poly.specs.Polynomial.{rem, powers}
 use Rattle.poly.specs.Fit.{Divisor}
 use Rattle.poly.specs.declared.Generator.{Generator}
 use Rattle.poly.proofs.DivisionLaws.{rem-zero, rem-xor}
-use Rattle.poly.proofs.ParityLaws.{ones-power, ones-rem}
+use Rattle.poly.proofs.ParityLaws.{ones-power, parity-rem}
 use Rattle.tables.specs.Tables.{power, values, first}
 use Rattle.tables.proofs.PowerLaws.{power-lt}
 use Rattle.tables.proofs.PeriodLaws.{period-positive, power-again, power-only}
@@ -20,7 +20,7 @@ use Rattle.tables.proofs.FirstLaws.{first-hit, first-least}
 use Rattle.tables.proofs.TableLaws.{length-values, getD-values, length-firstTable, getD-firstTable}
 use Rattle.patterns.specs.Listing.{syndrome, listing, upTo}
 use Rattle.patterns.proofs.SiftLaws.{sift-same}
-use Rattle.search.specs.Search.{xorAll, summing, listed, Told, OddPowers}
+use Rattle.search.specs.Search.{xorAll, summing, listed, Told, OddOnes}
 use Rattle.search.specs.declared.Found.{Found}
 use Rattle.cursor.specs.Cursors.{cursorOf, Listable, Prepared}
 use Rattle.cursor.specs.declared.Cursor.{Cursor}
@@ -44,13 +44,13 @@ pub told-listing : (n g : ℕ) → Divisor n g → (l limit s : ℕ) (ahead : Li
 told-listing n g d l limit s ahead r pos h =
     subst (λ (xs : List (List ℕ)). Told l limit xs (ahead xs) r pos) (sym (listing-listed n g d l limit s)) h
 
--- of a generator with an even count of ones every power has an odd one
-pub odd-powers : {c : Cursor} {pow first : List ℕ} → Prepared c pow first → OddPowers (c .generator .coefficients) pow
+-- with a generator that has an even number of ones, every power has an odd number of them
+pub odd-ones : {c : Cursor} {pow first : List ℕ} → Prepared c pow first → OddOnes (c .generator .coefficients) pow
 unfolding power
-odd-powers {c} h even p k =
+odd-ones {c} h even p k =
     let d = h .fit .divisor in
     ap (λ (x : ℕ). ones x % 2) (h .lookup .known p k)
-    ∙ ones-rem (c .generator .degree) (c .generator .coefficients) (d .low) (d .high) even (2 ^ p)
+    ∙ parity-rem (c .generator .degree) (c .generator .coefficients) (d .low) (d .high) even (2 ^ p)
     ∙ ap (λ (x : ℕ). x % 2) (ones-power p)
 
 -- powers filled in and tables that are right serve a cursor

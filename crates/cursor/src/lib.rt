@@ -92,14 +92,8 @@ pub fn begin(cursor: Cursor, pow: &[u32], first: &[u16], mark: Mark, pos: &mut [
 {
     match mark {
         Mark::Start => {
-            search::search_first(
-                cursor.generator.coefficients,
-                pow,
-                first,
-                cursor.period,
-                cursor.syndrome,
-                pos,
-            )
+            let g = cursor.generator.coefficients;
+            search::search_first(g, pow, first, cursor.period, cursor.syndrome, pos)
         }
         Mark::Ended => Found::Nothing,
         Mark::After(p) => go_on(cursor, pow, first, p, pos),

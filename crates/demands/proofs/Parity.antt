@@ -1,6 +1,6 @@
--- What parity tells of the calls, for a generator with an even count of ones (docs/RULES.md, section 3). Of every pattern and at every
--- degree: patterns/ParityLaws `count-parity`.
-use mathlib.Core.Path.{_≡_, refl, _∙_}
+-- What parity tells of the calls, for a generator with an even number of ones (docs/RULES.md, section 10). Of every pattern and at
+-- every degree: patterns/ParityLaws `count-parity`.
+use mathlib.Core.Path.{_≡_, refl, subst, _∙_}
 use mathlib.Core.List.{List, [], _∷_}
 use Prim.Native.Nat.{ℕ, zero, suc, _+_, _-_, _%_, _<_}
 use native.Mathlib.Omega.{arith}
@@ -10,11 +10,13 @@ use lib.ListN.{length, take}
 use lib.Seq.{length-take-le}
 use Rattle.base.specs.Lists.{In, here, there, All, none, each}
 use Rattle.base.specs.Outcome.{accepted}
-use Rattle.base.proofs.JudgeLaws.{judge-value}
+use Rattle.base.proofs.JudgeLaws.{judge-clear, judge-value}
 use Rattle.poly.specs.Polynomial.{rem, powers}
-use Rattle.poly.proofs.ParityLaws.{ones-xor}
-use Rattle.packet.specs.Packet.{bits, remainder, flips}
-use Rattle.packet.specs.Calls.{remainderCall}
+use Rattle.poly.specs.Fit.{Fit}
+use Rattle.poly.proofs.GeneratorLaws.{fit-accepted}
+use Rattle.poly.proofs.ParityLaws.{parity-xor}
+use Rattle.packet.specs.Packet.{Bytes, bits, remainder, flips}
+use Rattle.packet.specs.Calls.{packetConditions, remainderCall}
 use Rattle.packet.specs.declared.Crc.{Crc}
 use Rattle.checksum.specs.declared.Check.{Check}
 use Rattle.patterns.specs.Listing.{syndrome}
@@ -25,6 +27,7 @@ use Rattle.pages.specs.Sequences.{Lending, acceptedCalls}
 use Rattle.repair.specs.Verdicts.{packetList, Said, repaired, several, verdict}
 use Rattle.repair.specs.Calls.{repairCall, repairConditions}
 use Rattle.repair.proofs.VerdictLaws.{verdict-repaired, verdict-several}
+use Rattle.demands.specs.Demand2.{Numbered}
 use Rattle.demands.specs.Demand3.{Supposed, repairWith}
 use Rattle.demands.proofs.Demand2.{flips-add}
 use Rattle.demands.proofs.Demand3.{fit-of, pages-joined}
@@ -34,33 +37,38 @@ all-taken xs zero h = none
 all-taken [] (suc k) h = none
 all-taken (x ∷ xs) (suc k) h = each (h x (here refl)) (all-taken xs k (λ y i. h y (there i)))
 
--- an accepted packet, initial and final value, range and limit, and a generator with an even count of ones
-module _ (c : Crc) (k : Check) (limit : ℕ) (s : List ℕ) (supposed : Supposed c k limit s) (even : ones (c .generator .coefficients) % 2 ≡ 0) where
-  -- flipping bits of the packet adds their number to the count of ones that the call's remainder has, modulo 2
-  pub flips-parity : (r : ℕ) → remainderCall c s ≡ accepted r → (ps : List ℕ) → All (λ (p : ℕ). p < bits s) ps
-      → (q : ℕ) × (remainderCall c (flips s ps) ≡ accepted q) × (ones q % 2 ≡ (ones r + length ps) % 2)
-  unfolding syndrome
-  flips-parity r h ps within =
-      let n : ℕ = c .generator .degree in
-      let g : ℕ = c .generator .coefficients in
-      let added : ℕ = rem n g (powers ps) in (
-        bitXor r added,
-        flips-add c (supposed .numbered) s (supposed .bytes) r h ps within,
-        omega (arith, ones-xor r added, count-parity n g (fit-of supposed .divisor) even ps),
-      )
+-- flipping bits of an accepted packet adds their number to that of ones in the call's remainder, modulo 2
+pub flips-parity : (c : Crc) → Numbered c → ones (c .generator .coefficients) % 2 ≡ 0 → (s : List ℕ) → Bytes s
+    → (r : ℕ) → remainderCall c s ≡ accepted r → (ps : List ℕ) → All (λ (p : ℕ). p < bits s) ps
+    → (q : ℕ) × (remainderCall c (flips s ps) ≡ accepted q) × (ones q % 2 ≡ (ones r + length ps) % 2)
+unfolding syndrome
+flips-parity c numbered even s b r h ps within =
+    let n : ℕ = c .generator .degree in
+    let g : ℕ = c .generator .coefficients in
+    let added : ℕ = rem n g (powers ps) in
+    let fit = subst Fit numbered (fit-accepted g (judge-clear (packetConditions c (bits s)) (remainder c s) r h 1)) in (
+      bitXor r added,
+      flips-add c numbered s b r h ps within,
+      omega (arith, parity-xor r added, count-parity n g (fit .divisor) even ps),
+    )
 
-  -- a listed pattern's count of positions and the remainder's count of ones are both even or both odd
+-- an accepted packet, initial and final value, range and limit
+module _ (c : Crc) (k : Check) (limit : ℕ) (s : List ℕ) (supposed : Supposed c k limit s) (even : ones (c .generator .coefficients) % 2 ≡ 0) where
+  -- a listed pattern's number of positions and the remainder's number of ones are both even or both odd
   pub the-counts : (ps : List ℕ) → In ps (packetList c limit s) → length ps % 2 ≡ ones (remainder c s) % 2
-  the-counts = listed-parity (c .generator .degree) (c .generator .coefficients) (fit-of supposed .divisor) even (bits s) limit (remainder c s)
+  the-counts =
+      listed-parity (c .generator .degree) (c .generator .coefficients) (fit-of supposed .divisor) even (bits s) limit (remainder c s)
 
   -- of two patterns of the list, one has as many positions as the other or an even number more
   pub the-differences : (p q : List ℕ) → In p (packetList c limit s) → In q (packetList c limit s) → (length p - length q) % 2 ≡ 0
-  the-differences = counts-differ-by-even (c .generator .degree) (c .generator .coefficients) (fit-of supposed .divisor) even (bits s) limit (remainder c s)
+  the-differences =
+      counts-differ-by-even (c .generator .degree) (c .generator .coefficients) (fit-of supposed .divisor) even (bits s) limit (remainder c s)
 
   -- so it is with every record of a sequence of page calls
   pub pages-parity : (lendings : List Lending)
       → let cs = acceptedCalls (c .generator .coefficients) (bits s) limit (remainder c s) lendings in
-      (xs : List (List ℕ)) × (joined cs ≡ records xs) × (length xs ≡ reported cs) × All (λ (ps : List ℕ). length ps % 2 ≡ ones (remainder c s) % 2) xs
+      (xs : List (List ℕ)) × (joined cs ≡ records xs) × (length xs ≡ reported cs)
+      × All (λ (ps : List ℕ). length ps % 2 ≡ ones (remainder c s) % 2) xs
   pages-parity lendings =
       let n : ℕ = reported (acceptedCalls (c .generator .coefficients) (bits s) limit (remainder c s) lendings) in
       let j = pages-joined c k limit s supposed lendings in

@@ -1,5 +1,5 @@
--- Counts of ones, modulo 2: a sum has as many as its terms together; and where the divisor's count is even, a remainder has as
--- many as what was divided.
+-- Numbers of ones, modulo 2: a sum has as many as its terms together; and a remainder has as many as what was divided, where the
+-- divisor has an even number.
 use mathlib.Core.Path.{_≡_, refl, ap, ap₂, _∙_}
 use mathlib.Core.List.{List, [], _∷_}
 use Prim.Native.Nat.{ℕ, zero, suc, _+_, _*_, _/_, _%_, _^_, _<_, _≤_}
@@ -29,8 +29,8 @@ ones-zero = refl
 parity-join : (d u x y v w : ℕ) → d % 2 ≡ (x + y) % 2 → u % 2 ≡ (v + w) % 2 → (d + u) % 2 ≡ ((x + v) + (y + w)) % 2
 parity-join d u x y v w h k = omega arith
 
-pub ones-xor : (a b : ℕ) → ones (bitXor a b) % 2 ≡ (ones a + ones b) % 2
-ones-xor =
+pub parity-xor : (a b : ℕ) → ones (bitXor a b) % 2 ≡ (ones a + ones b) % 2
+parity-xor =
     bin-ind (λ (a : ℕ). (b : ℕ) → ones (bitXor a b) % 2 ≡ (ones a + ones b) % 2)
     (λ b. rw (xor-zero-l b) (omega (arith, ones-zero)))
     (λ a ih b.
@@ -54,19 +54,19 @@ ones-power p =
     ap ones e ∙ ones-cat p 1 0 (pow-pos p)
 
 -- the sum of powers of x at so many places, which need not differ
-pub ones-powers : (ps : List ℕ) → ones (powers ps) % 2 ≡ length ps % 2
+pub parity-powers : (ps : List ℕ) → ones (powers ps) % 2 ≡ length ps % 2
 unfolding powers
-ones-powers [] = ap (λ (x : ℕ). x % 2) ones-zero
-ones-powers (p ∷ ps) = omega (arith, ones-xor (2 ^ p) (powers ps), ones-power p, ones-powers ps)
+parity-powers [] = ap (λ (x : ℕ). x % 2) ones-zero
+parity-powers (p ∷ ps) = omega (arith, parity-xor (2 ^ p) (powers ps), ones-power p, parity-powers ps)
 
 module _ (n g : ℕ) (low : 2 ^ n ≤ g) (high : g < 2 ^ suc n) (even : ones g % 2 ≡ 0) where
-  ones-reduce : (v : ℕ) → v < 2 ^ suc n → ones (reduce n g v) % 2 ≡ ones v % 2
-  ones-reduce v h =
+  parity-reduce : (v : ℕ) → v < 2 ^ suc n → ones (reduce n g v) % 2 ≡ ones v % 2
+  parity-reduce v h =
       by-order v (2 ^ n) (λ l. rw (reduce-low n g v l) refl)
-      (λ l. rw (reduce-high n g v l h) (omega (arith, even, ones-xor g v)))
+      (λ l. rw (reduce-high n g v l h) (omega (arith, even, parity-xor g v)))
 
-  pub ones-rem : (a : ℕ) → ones (rem n g a) % 2 ≡ ones a % 2
-  ones-rem =
+  pub parity-rem : (a : ℕ) → ones (rem n g a) % 2 ≡ ones a % 2
+  parity-rem =
       bin-ind (λ (a : ℕ). ones (rem n g a) % 2 ≡ ones a % 2) (rw (rem-zero n g) refl)
       (λ a ih.
       let v : ℕ = rem n g (a / 2) * 2 + a % 2 in
@@ -74,7 +74,7 @@ module _ (n g : ℕ) (low : 2 ^ n ≤ g) (high : g < 2 ^ suc n) (even : ones g %
       (omega (
         arith,
         ih,
-        ones-reduce v (omega (arith, rem-lt n g low high (a / 2))),
+        parity-reduce v (omega (arith, rem-lt n g low high (a / 2))),
         ones-append (rem n g (a / 2)) (a % 2) (mod-two-lt a),
         ones-step a,
       )))

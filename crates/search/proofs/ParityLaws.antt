@@ -1,5 +1,5 @@
--- What parity tells a search. Where every power has an odd count of ones, the count of a sum of powers is even or odd as their
--- number is; so a count of positions that is ruled out has no set of the sum looked for.
+-- What parity tells a search. Where every power has an odd number of ones, that of a sum of powers is even or odd as their number
+-- is; so a count of positions that is ruled out has no set of the sum looked for.
 use mathlib.Core.Path.{_≡_, refl, sym, ap, _∙_}
 use mathlib.Core.Bool.{true, true≢false}
 use mathlib.Core.List.{List, []}
@@ -10,19 +10,19 @@ use lib.Dec.{eqb}
 use lib.ListN.{length}
 use borrow.Author.Tests.{eqb-true, eq-eqb, ne-eqb}
 use Rattle.base.specs.Lists.{Ascending, ends, next}
-use Rattle.poly.proofs.ParityLaws.{ones-zero, ones-xor}
+use Rattle.poly.proofs.ParityLaws.{ones-zero, parity-xor}
 use Rattle.patterns.specs.Order.{lower}
 use Rattle.patterns.specs.Listing.{choose, sift}
 use Rattle.patterns.proofs.SiftLaws.{sift-none}
 use Rattle.patterns.proofs.ListingLaws.{choose-in}
-use Rattle.search.specs.Search.{xorAll, summing, headless, headOf, firstOf, firstAfter, Lookup, OddPowers, ruledOut}
+use Rattle.search.specs.Search.{xorAll, summing, headless, headOf, firstOf, firstAfter, Lookup, OddOnes, ruledOut}
 use Rattle.search.proofs.HeadLaws.{head-nil, firstOf-whole}
 
 sum-parity : (power : ℕ → ℕ) {l from : ℕ} {ps : List ℕ} → ((p : ℕ) → p < l → ones (power p) % 2 ≡ 1)
     → Ascending l from ps → length ps % 2 ≡ ones (xorAll power ps) % 2
 unfolding xorAll
 sum-parity power odd ends = omega (arith, ones-zero)
-sum-parity power odd (next {p = p} {ps = ps} h b a) = omega (arith, sum-parity power odd a, odd p b, ones-xor (power p) (xorAll power ps))
+sum-parity power odd (next {p = p} {ps = ps} h b a) = omega (arith, sum-parity power odd a, odd p b, parity-xor (power p) (xorAll power ps))
 
 module _ (g k u : ℕ) (out : ruledOut g k u ≡ true) where
   out-apart : k % 2 ≡ ones u % 2 → ⊥
@@ -33,7 +33,7 @@ module _ (g k u : ℕ) (out : ruledOut g k u ≡ true) where
   unfolding ruledOut
   out-even = eqb-true _ _ (rw (ne-eqb (k % 2) (ones u % 2) out-apart) at out)
 
-  module _ {power : ℕ → ℕ} {pow first : List ℕ} {period : ℕ} (t : Lookup power pow first period) (odd : OddPowers g pow) where
+  module _ {power : ℕ → ℕ} {pow first : List ℕ} {period : ℕ} (t : Lookup power pow first period) (odd : OddOnes g pow) where
     none-summing : summing power u (choose (length pow) k zero) ≡ []
     unfolding summing
     none-summing =

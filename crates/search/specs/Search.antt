@@ -99,11 +99,12 @@ pub record Ready (pow first : List ℕ) (period lo u : ℕ) : Type 0 where
   pub start : lo ≤ length pow
   pub sum : u < 2 ^ n
 
--- what a generator's count of ones tells of the powers: if it is even, the count of each of them is odd
-abbrev pub OddPowers : ℕ → List ℕ → Type 0
-OddPowers g pow = ones g % 2 ≡ 0 → (p : ℕ) → p < length pow → ones (getD pow p 0) % 2 ≡ 1
+-- what the generator's number of ones tells of the powers: if it is even, each of them has an odd number of ones
+abbrev pub OddOnes : ℕ → List ℕ → Type 0
+OddOnes g pow = ones g % 2 ≡ 0 → (p : ℕ) → p < length pow → ones (getD pow p 0) % 2 ≡ 1
 
--- and so of sets of k positions with the sum u: there are none if the counts k and of u's ones are not both even or both odd
+-- parity rules out sets of k positions with the sum u: of k and the number of u's ones one is even and the other odd, and the
+-- generator's number of ones is even
 unfoldable pub ruledOut : ℕ → ℕ → ℕ → Bool
 ruledOut g k u = not (eqb (k % 2) (ones u % 2)) && eqb (ones g % 2) 0
 

@@ -1,6 +1,6 @@
 // The search for the first listed error pattern, and for the first that follows one: all positions but the last are
 // forced, and the last is looked up. `pow` holds the powers of x at the positions below its length, `first` the first
-// position of each remainder. Contracts hold for any powers that the two tables describe; of the generator only its count
+// position of each remainder. Contracts hold for any powers that the two tables describe; of the generator only its number
 // of ones is asked.
 ghost use mathlib.Core.Path.{_≡_};
 ghost use Prim.Native.Nat.{ℕ, _+_, _-_, _≤_};
@@ -16,7 +16,7 @@ ghost use Rattle.search.specs.Search.{
   Lookup,
   Nearest,
   NextTold,
-  OddPowers,
+  OddOnes,
   Placed,
   Ready,
   rising,
@@ -155,8 +155,8 @@ fn resume(pow: &[u32], first: &[u16], period: usize, u: usize, pos: &mut [u16]) 
     place(pow, first, period, p + 1, u, pos)
 }
 
-// Whether no set of `count` positions can have the sum `u`, by what parity tells of a generator whose count of ones is
-// even. It tells nothing of any other.
+// Whether parity rules out sets of `count` positions with the sum `u`: it tells of generators with an even number of ones,
+// and of no other. That is asked last, since after a listed pattern the first two numbers agree.
 fn ruled_out(generator: u64, count: usize, u: usize) -> bool
     ensures { λ r. ⌜ r ≡ ruledOut generator count u ⌝ }
 {
@@ -180,7 +180,7 @@ fn place_or_skip(
     u: usize,
     pos: &mut [u16],
 ) -> bool
-    requires { ⌜ Ready (now pow) (now first) period 0 u × OddPowers generator (now pow) ⌝ }
+    requires { ⌜ Ready (now pow) (now first) period 0 u × OddOnes generator (now pow) ⌝ }
     ensures { λ r. ⌜ Placed (now (pow .entry)) (now (first .entry)) period (length (now (pos .entry))) 0 u r (now (pos .exit)) ⌝ }
 {
     if ruled_out(generator, pos.len(), u) {
@@ -198,11 +198,11 @@ fn resume_or_skip(
     u: usize,
     pos: &mut [u16],
 ) -> bool
-    requires { ⌜ Ready (now pow) (now first) period 0 u × Ascending (length (now pow)) 0 (now pos) × OddPowers generator (now pow) ⌝ }
+    requires { ⌜ Ready (now pow) (now first) period 0 u × Ascending (length (now pow)) 0 (now pos) × OddOnes generator (now pow) ⌝ }
     ensures { λ r. ⌜ ((power : ℕ → ℕ) → Lookup power (now (pow .entry)) (now (first .entry)) period → answer r (now (pos .exit)) ≡ firstAfter power (length (now (pow .entry))) (now (pos .entry)) u) ⌝ }
 {
     if ruled_out(generator, pos.len(), u) {
-        return false;
+        return false; // nor is the set in `pos` then listed
     }
     resume(pow, first, period, u, pos)
 }
@@ -217,7 +217,7 @@ fn rise(
     u: usize,
     pos: &mut [u16],
 ) -> Found
-    requires { ⌜ Ready (now pow) (now first) period 0 u × (count ≤ length (now pos) + 1) × OddPowers generator (now pow) ⌝ }
+    requires { ⌜ Ready (now pow) (now first) period 0 u × (count ≤ length (now pos) + 1) × OddOnes generator (now pow) ⌝ }
     ensures counted { λ r. ⌜ CountWithin (length (now (pos .entry))) r ⌝ }
     ensures first { λ r. ⌜ ((power : ℕ → ℕ) → Lookup power (now (pow .entry)) (now (first .entry)) period → found r (now (pos .exit)) ≡ headOf (summing power u (rising (length (now (pow .entry))) count (length (now (pos .entry)) + 1 - count)))) ⌝ }
 {
@@ -240,7 +240,7 @@ pub fn search_first(
     syndrome: u64,
     pos: &mut [u16],
 ) -> Found
-    requires { ⌜ Ready (now pow) (now first) period 0 syndrome × OddPowers generator (now pow) ⌝ }
+    requires { ⌜ Ready (now pow) (now first) period 0 syndrome × OddOnes generator (now pow) ⌝ }
     ensures { λ r. ⌜ FirstTold (now (pow .entry)) (now (first .entry)) period syndrome (length (now (pos .entry))) r (now (pos .exit)) ⌝ }
 {
     rise(
@@ -264,7 +264,7 @@ pub fn search_next(
     pos: &mut [u16],
     count: usize,
 ) -> Found
-    requires { ⌜ Ready (now pow) (now first) period 0 syndrome × (count ≤ length (now pos)) × Ascending (length (now pow)) 0 (take count (now pos)) × OddPowers generator (now pow) ⌝ }
+    requires { ⌜ Ready (now pow) (now first) period 0 syndrome × (count ≤ length (now pos)) × Ascending (length (now pow)) 0 (take count (now pos)) × OddOnes generator (now pow) ⌝ }
     ensures { λ r. ⌜ NextTold (now (pow .entry)) (now (first .entry)) period syndrome (length (now (pos .entry))) (take count (now (pos .entry))) r (now (pos .exit)) ⌝ }
 {
     if resume_or_skip(

@@ -2,7 +2,7 @@
 //! "CRC-Based Correction of Multiple Errors Using an Optimized Lookup Table" (IEEE Access 10, 2022), and a table-driven
 //! CRC.
 //!
-//! The method is taken at its best. A row of its table is two 16-bit numbers. Forced positions move on by one step from
+//! The method is taken at its best, but for parity, which the paper does not use (`counts_by_parity`). A row of its table is two 16-bit numbers. Forced positions move on by one step from
 //! the set before, where the paper's algorithm 3 walks from bit 0 again for each set. The bound of algorithm 2 is mended
 //! (as printed it lets the last position be the packet's length), and counts are taken from the smallest up, so that the
 //! patterns come in the library's order. Its tables are trusted, not verified.
@@ -51,8 +51,9 @@ impl Lookup {
         self.rows.iter().map(|row| row.next).collect()
     }
 
-    /// The counts up to `limit` that parity does not rule out. The paper tries them all; an earlier one of its authors, "Enhanced
-    /// CRC-Based Correction of Multiple Errors with Candidate Validation" (Signal Processing: Image Communication 99, 2021), does not.
+    /// The counts up to `limit` that parity does not rule out. The paper tries them all; an earlier paper by the same authors,
+    /// "Enhanced CRC-Based Correction of Multiple Errors with Candidate Validation" (Signal Processing: Image Communication 99, 2021),
+    /// does not.
     pub fn counts_by_parity(&self, syndrome: u32, limit: usize) -> impl Iterator<Item = usize> {
         let odd = self.generator.count_ones() % 2 == 1;
         (0..=limit).filter(move |&count| odd || count % 2 == syndrome.count_ones() as usize % 2)

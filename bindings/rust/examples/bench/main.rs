@@ -80,7 +80,7 @@ fn verifying(tables: &Tables) -> Duration {
     times[0]
 }
 
-/// The syndrome of so many random positions. With CCITT its count of ones is even or odd as their number is.
+/// The syndrome of so many random positions. With CCITT its number of ones is even or odd as theirs is.
 fn some_syndrome(random: &mut Random, positions: usize, length: usize) -> u64 {
     let mut packet = vec![0; length / 8];
     for position in random.positions(positions, length) {
@@ -115,15 +115,16 @@ fn write_list(
 
 /// The whole list, in one page and in pages of 64 KiB, beside the method's.
 fn lists(random: &mut Random, tables: &Tables, lookup: &Lookup, verifying: Duration) {
-    println!("The whole list, as records (CCITT), by the syndrome's count of ones. Milliseconds.");
+    println!("The whole list, as records (CCITT), by the syndrome's number of ones. Milliseconds.");
     println!(
         "    L  N  ones  patterns  one page  verifying tables  64 KiB pages    method  ratio of one page  of 64 KiB pages  \
          method, by parity  ratio of one page"
     );
-    for (length, limit, positions, rounds) in
-        [(4096, 2, 2, 20), (4096, 3, 3, 7), (1024, 3, 3, 7), (1024, 4, 4, 3), (1024, 4, 3, 7)]
+    let [pair, triple] = [2, 3].map(|positions| some_syndrome(random, positions, 4096));
+    let [three, four] = [3, 4].map(|positions| some_syndrome(random, positions, 1024));
+    for (length, limit, syndrome, rounds) in
+        [(4096, 2, pair, 20), (4096, 3, triple, 7), (1024, 3, three, 7), (1024, 4, three, 7), (1024, 4, four, 3)]
     {
-        let syndrome = some_syndrome(random, positions, length);
         let patterns = tables.patterns(length, limit, syndrome).unwrap().count();
         let bytes = 9 * patterns.max(1);
 
@@ -186,13 +187,24 @@ fn lists(random: &mut Random, tables: &Tables, lookup: &Lookup, verifying: Durat
     }
 }
 
-/// A page after a mark whose count of positions no listed pattern can have: the first of three and of four positions.
-fn resumed(random: &mut Random, tables: &Tables, verifying: Duration) {
+/// A page after a mark whose count parity rules out: the first set of three positions, and the first of four.
+fn resumed(random: &mut Random, tables: &Tables, lookup: &Lookup, verifying: Duration) {
     println!("A page of 9 bytes after a mark (CCITT, L of 1,024, N of 4). Microseconds.");
-    println!("ones  mark       library  verifying tables");
+    println!("ones  mark           library  verifying tables");
     for (positions, mark) in [(4, &[0, 1, 2][..]), (3, &[0, 1, 2, 3])] {
         let syndrome = some_syndrome(random, positions, 1024);
         let after = Mark::After(Pattern::new(mark).unwrap());
+
+        // the first of the method's patterns that follows the mark, if there is one
+        let mut next = None;
+        lookup.patterns(syndrome as u32, 1024, mark.len()..=4, &mut |pattern| {
+            if next.is_none() && (pattern.len(), pattern) > (mark.len(), mark) {
+                next = Pattern::new(pattern);
+            }
+        });
+        let page = tables.page(1024, 4, syndrome, after, &mut [0; 9]).unwrap();
+        assert_eq!(page.next, next.map_or(Mark::Ended, Mark::After));
+
         let times = race(
             7,
             &mut [0; 9],
@@ -202,7 +214,7 @@ fn resumed(random: &mut Random, tables: &Tables, verifying: Duration) {
             }],
         );
         println!(
-            "{:>4}  {:9}  {:8.1}  {:15.1}%",
+            "{:>4}  {:12}  {:8.1}  {:15.1}%",
             parity(syndrome),
             format!("{mark:?}"),
             micros(times[0]),
@@ -281,7 +293,7 @@ fn compare_repairs(
 }
 
 fn repairs(random: &mut Random, tables: &Tables, reader: &Reader, verifying: Duration) {
-    println!("Repair of damaged packets (CCITT). Packets a second.");
+    println!("Repair of damaged packets (CCITT). The method tries the counts that parity rules out. Packets a second.");
     println!("bytes  N  flipped   library  verifying tables    method     ratio  method, sums corrected     ratio");
     for (len, limit, flips, packets, rounds) in REPAIRS {
         let received = damaged(random, packets, len, flips);
@@ -406,7 +418,7 @@ fn main() {
     println!();
     lists(random, &tables, &reader.lookup, verifying);
     println!();
-    resumed(random, &tables, verifying);
+    resumed(random, &tables, &reader.lookup, verifying);
     println!();
     repairs(random, &tables, &reader, verifying);
     println!();

@@ -6,14 +6,14 @@ use lib.ListN.{length, take}
 use Rattle.tables.specs.Tables.{power}
 use Rattle.patterns.specs.Order.{before}
 use Rattle.patterns.specs.Listing.{sift}
-use Rattle.cursor.proofs.LookupLaws.{told-listing, odd-powers}
+use Rattle.cursor.proofs.LookupLaws.{told-listing, odd-ones}
 use Rattle.cursor.proofs.advance.Statement.{statement}
 use Rattle.cursor.proofs.advance.Tie as tie
 
 search-next-requires : tie.Need-search-next-requires
 search-next-requires c κs =
     let p = c .before .before .before .before .pre in
-    (p .0 .ready, p .1 .0, p .1 .1, odd-powers (p .0))
+    (p .0 .ready, p .1 .0, p .1 .1, odd-ones (p .0))
 
 returns : tie.Need-returns
 returns c =

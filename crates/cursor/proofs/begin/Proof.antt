@@ -5,7 +5,7 @@ use borrow.Author.Needs.{needs}
 use lib.ListN.{length}
 use Rattle.tables.specs.Tables.{power}
 use Rattle.cursor.specs.Cursors.{listedBy}
-use Rattle.cursor.proofs.LookupLaws.{told-listing, odd-powers}
+use Rattle.cursor.proofs.LookupLaws.{told-listing, odd-ones}
 use Rattle.cursor.proofs.AheadLaws.{told-along, from-start, from-ended, from-after, after-marked}
 use Rattle.cursor.proofs.begin.Statement.{statement}
 use Rattle.cursor.proofs.begin.Tie as tie
@@ -13,7 +13,7 @@ use Rattle.cursor.proofs.begin.Tie as tie
 search-first-requires : tie.Need-search-first-requires
 search-first-requires c κs =
     let p = c .before .before .before .before .before .before .pre .0 in
-    (p .ready, odd-powers p)
+    (p .ready, odd-ones p)
 
 go-on-requires : tie.Need-go-on-requires
 go-on-requires c κs =

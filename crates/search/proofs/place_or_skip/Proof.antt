@@ -9,7 +9,8 @@ use Rattle.search.proofs.place_or_skip.Tie as tie
 returns : tie.Need-returns
 returns c power t =
     let s = c .before .before .before .before .before in
-    sym (none-placed (s .args .generator) (length (s .args .pos .now)) (s .args .u) (sym (c .before .ruled-out .ensures) ∙ c .if1 .taken) t (s .pre .1))
+    let out = sym (c .before .ruled-out .ensures) ∙ c .if1 .taken in
+    sym (none-placed (s .args .generator) (length (s .args .pos .now)) (s .args .u) out t (s .pre .1))
 
 pub place-or-skip-spec : {M : Type 1} → statement M
 place-or-skip-spec = tie.close (tie.spec (λ c κs. search needs) returns (λ c κs. search needs) (λ c. search needs) (λ c. search needs))

@@ -1,4 +1,4 @@
--- `ruled_out` asks the two counts of ones, the sum's first.
+-- `ruled_out` asks for the two numbers of ones, the sum's first.
 use mathlib.Core.Path.{_≡_}
 use mathlib.Core.Bool.{false}
 use Prim.Native.Nat.{_%_}
@@ -19,7 +19,7 @@ returns c =
     let a = c .before .args in
     simp (eq-eqb (a .count % 2) (ones (a .u) % 2) (omega (arith, c .if1 .taken)))
 
--- the counts are not both even or both odd
+-- of the count and the number of ones one is even and the other odd
 apart : (c : tie.Else1) → let a = c .before .args in eqb (a .count % 2) (ones (a .u) % 2) ≡ false
 apart c = let a = c .before .args in ne-eqb (a .count % 2) (ones (a .u) % 2) (λ h. omega (arith, h, c .if1 .left))
 
