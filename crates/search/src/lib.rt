@@ -156,7 +156,7 @@ fn resume(pow: &[u32], first: &[u16], period: usize, u: usize, pos: &mut [u16]) 
 }
 
 // Whether parity rules out sets of `count` positions with the sum `u`: it tells of generators with an even number of ones,
-// and of no other. That is asked last, since after a listed pattern the first two numbers agree.
+// and of no other. The generator is asked last, since after a listed pattern of such a one it need not be.
 fn ruled_out(generator: u64, count: usize, u: usize) -> bool
     ensures { λ r. ⌜ r ≡ ruledOut generator count u ⌝ }
 {
