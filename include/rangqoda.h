@@ -15,8 +15,8 @@
  * Terms
  *
  *   generator  A binary polynomial as a number: 2^i stands for x^i. Its degree n
- *              is the exponent of its leading term. Accepted: odd ones with n
- *              from 3 to 16.
+ *              is the exponent of its leading term. Accepted: odd numbers with
+ *              n from 3 to 16.
  *   length     L, the bits of a packet, 8 for each byte. Accepted: greater than
  *              n, and at most 4096. The page call is told L itself, and takes
  *              any number of bits.
@@ -172,11 +172,11 @@
  *
  * With a generator that has an even number of ones, as RANGQODA_CCITT, an even
  * number of flipped bits leaves a remainder with an even number of ones, and an
- * odd number of them one with an odd number, if the packet passed the CRC.
- * Numbers of flips that this rules out are not tried: where of N and the
- * remainder's number of ones one is even and the other odd, the time is that of
- * N - 1 (at N = 1, of verifying the tables). Where both are even or both odd,
- * the list has about 2 L^N/(N! 2^n) patterns.
+ * odd number of them one with an odd number, if the packet sent passes the CRC.
+ * Numbers of flips that this rules out are not tried. If N is even and the
+ * remainder has an odd number of ones, or the other way round, the time is that
+ * of N - 1 (at N = 1, of verifying the tables); if not, the list has about
+ * 2 L^N/(N! 2^n) patterns.
  *
  * A call cannot be interrupted. Small pages do not bound its time: a page
  * searches until its next record or the end of the list.

@@ -12,7 +12,7 @@
 //! # Terms
 //!
 //! - A *generator* is a binary polynomial as a number: 2^i stands for x^i. Its degree n is the exponent of its leading
-//!   term. Accepted: odd ones with n from 3 to 16.
+//!   term. Accepted: odd numbers with n from 3 to 16.
 //! - A packet has L bits, 8 for each byte. They are counted from its end: *position* 0 is the lowest bit of its last byte,
 //!   and L - 1 the highest bit of its first. Accepted: n < L ≤ 4,096. The CRC is the last n bits.
 //! - The *remainder* or *syndrome* is what is left when the packet, as a binary polynomial with the *initial value* added at
@@ -60,11 +60,12 @@
 //! Each page and each repair verifies both tables, 0.05 ms for degree 16. Beyond that a repair takes time as L^(N-1): with
 //! [`CCITT`] about 0.1 ms at N of 1 and 2; at N = 3 0.3 ms for 64 bytes and 0.03 s for 512; at N = 4 0.03 s for 64 bytes and
 //! 30 s for 512. It also grows with the length of the list, about L^N/(N! 2^n): at small degrees and N of 3 or 4 it can take
-//! hours. With a generator that has an even number of ones, as [`CCITT`], an even number of flipped bits leaves a remainder with an
-//! even number of ones, and an odd number of them one with an odd number, if the packet passed the CRC. Numbers of flips that this
-//! rules out are not tried: where of N and the remainder's number of ones one is even and the other odd, the time is that of N - 1
-//! (at N = 1, of verifying the tables). Where both are even or both odd, the list is about twice as long. A call cannot be interrupted, and small pages do not bound its time: a page searches until its next record or the
-//! end of the list.
+//! hours. With a generator that has an even number of ones, as [`CCITT`], an even number of flipped bits leaves a
+//! remainder with an even number of ones, and an odd number of them one with an odd number, if the packet sent passes
+//! the CRC. Numbers of flips that this rules out are not tried. If N is even and the remainder has an odd number of
+//! ones, or the other way round, the time is that of N - 1 (at N = 1, of verifying the tables); if not, the list is
+//! about twice as long. A call cannot be interrupted, and small pages do not bound its time: a page searches until its
+//! next record or the end of the list.
 //!
 //! # Example
 //!

@@ -156,7 +156,8 @@ fn resume(pow: &[u32], first: &[u16], period: usize, u: usize, pos: &mut [u16]) 
 }
 
 // Whether parity rules out sets of `count` positions with the sum `u`: it tells of generators with an even number of ones,
-// and of no other. The generator is asked last, since after a listed pattern of such a one it need not be.
+// and of no other. The generator's ones are counted last: after a listed pattern, if their number is even, the first test
+// has answered.
 fn ruled_out(generator: u64, count: usize, u: usize) -> bool
     ensures { λ r. ⌜ r ≡ ruledOut generator count u ⌝ }
 {

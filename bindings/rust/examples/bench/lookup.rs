@@ -2,10 +2,11 @@
 //! "CRC-Based Correction of Multiple Errors Using an Optimized Lookup Table" (IEEE Access 10, 2022), and a table-driven
 //! CRC.
 //!
-//! The method is taken at its best, but for parity, which the paper does not use (`counts_by_parity`). A row of its table is two 16-bit numbers. Forced positions move on by one step from
-//! the set before, where the paper's algorithm 3 walks from bit 0 again for each set. The bound of algorithm 2 is mended
-//! (as printed it lets the last position be the packet's length), and counts are taken from the smallest up, so that the
-//! patterns come in the library's order. Its tables are trusted, not verified.
+//! The method is taken at its best, but for parity, which the paper does not use (`counts_by_parity`). A row of its
+//! table is two 16-bit numbers. Forced positions move on by one step from the set before, where the paper's algorithm 3
+//! walks from bit 0 again for each set. The bound of algorithm 2 is mended (as printed it lets the last position be the
+//! packet's length), and counts are taken from the smallest up, so that the patterns come in the library's order. Its
+//! tables are trusted, not verified.
 
 use std::ops::Range;
 
