@@ -5,11 +5,14 @@ use Prim.Native.Nat.{ℕ, _-_}
 use lib.ListN.{getD}
 use Rattle.base.specs.Refusals.{number}
 use Rattle.base.specs.declared.Refusal.{Refusal}
-use Rattle.base.specs.declared.Refusal.the-variants.{Generator, Length, Limit, Syndrome, TableLength, TableEntry, Mark, Output, Range, Field, Values}
+use Rattle.base.specs.declared.Refusal.the-variants.{Generator, Length, Limit, Syndrome, TableLength, TableEntry, Mark, Output, Range, Field, Values, BlockShape, BlockLength}
 
 -- the refusal of a number
 abbrev named : ℕ → Refusal
-named k = getD (Generator ∷ Length ∷ Limit ∷ Syndrome ∷ TableLength ∷ TableEntry ∷ Mark ∷ Output ∷ Range ∷ Field ∷ []) (k - 1) Values
+named k =
+    getD (Generator ∷ Length ∷ Limit ∷ Syndrome ∷ TableLength ∷ TableEntry ∷ Mark ∷ Output ∷ Range ∷ Field ∷ Values ∷ BlockShape ∷ [])
+    (k - 1)
+    BlockLength
 
 named-number : (r : Refusal) → named (number r) ≡ r
 named-number Generator = refl
@@ -23,6 +26,8 @@ named-number Output = refl
 named-number Range = refl
 named-number Field = refl
 named-number Values = refl
+named-number BlockShape = refl
+named-number BlockLength = refl
 
 -- different refusals have different numbers
 pub number-tells : (r q : Refusal) → number r ≡ number q → r ≡ q

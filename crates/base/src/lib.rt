@@ -15,6 +15,8 @@ pub enum Refusal {
     Range,
     Field,
     Values,
+    BlockShape,
+    BlockLength,
 }
 
 // What testing a call's conditions in their order comes to.
@@ -39,5 +41,7 @@ pub fn number_of(refusal: Refusal) -> u32
         Refusal::Range => 9,
         Refusal::Field => 10,
         Refusal::Values => 11,
+        Refusal::BlockShape => 12,
+        Refusal::BlockLength => 13,
     }
 }
