@@ -5,7 +5,8 @@
  * part of its bytes, or none. The library takes remainders and seals packets,
  * sums and stamps them, makes packets from a seed, lists all sets of at most so
  * many bit errors that explain a remainder, strikes those that the checksum
- * contradicts, and repairs a packet where just one is left.
+ * contradicts, and repairs a packet where just one is left. Apart from packets,
+ * it scatters bytes before storage and gathers them again.
  *
  * Link with librangqoda.a (x86-64 Linux). Nothing is allocated, kept between
  * calls or shared: calls on different memory may run at the same time. A page
@@ -73,6 +74,8 @@
  *   10  field not whole in the range, or not an even number of bytes from its
  *       start
  *   11  initial or final value 2^n or more
+ *   12  rows or columns 0 or above 64
+ *   13  input or output not of rows * columns bytes
  *
  *
  * Memory
@@ -295,6 +298,8 @@ extern "C" {
 #define RANGQODA_REFUSED_RANGE 9u
 #define RANGQODA_REFUSED_FIELD 10u
 #define RANGQODA_REFUSED_VALUES 11u
+#define RANGQODA_REFUSED_BLOCK_SHAPE 12u
+#define RANGQODA_REFUSED_BLOCK_LENGTH 13u
 
 /* The first-position table's entry where no power of x leaves the remainder. */
 #define RANGQODA_NO_POSITION 65535u
@@ -385,6 +390,36 @@ uint32_t rangqoda_stamp(uint64_t generator,
 uint32_t rangqoda_make(uint64_t generator, uint64_t initial, uint64_t final,
                        uint32_t seed, size_t start, size_t end, size_t field,
                        uint8_t *packet, size_t packet_len, uint32_t *state);
+
+/*
+ * Scatters bytes before storage: they are written into a block by rows and read
+ * by columns. Byte j * rows + i of the output is byte i * columns + j of the
+ * input, for i below rows and j below columns.
+ *
+ * Of any run of adjacent bytes of the output, at most as many as there are rows,
+ * no two come from one row. So where such a run is lost, and as many other bytes
+ * stand in its place, rangqoda_gather gives back every row with at most one byte
+ * that differs. That byte is not restored: up to eight of its bits may be wrong,
+ * and a repair takes up to four.
+ *
+ * Refused by 12, 13. Otherwise writes all bytes of output, which must not overlap
+ * the input.
+ */
+uint32_t rangqoda_scatter(size_t rows, size_t columns,
+                          const uint8_t *input, size_t input_len,
+                          uint8_t *output, size_t output_len);
+
+/*
+ * The way back from rangqoda_scatter, with the same rows and columns: bytes are
+ * written by columns and read by rows. Byte i * columns + j of the output is
+ * byte j * rows + i of the input. Each of the two undoes the other.
+ *
+ * Refused by 12, 13. Otherwise writes all bytes of output, which must not overlap
+ * the input.
+ */
+uint32_t rangqoda_gather(size_t rows, size_t columns,
+                         const uint8_t *input, size_t input_len,
+                         uint8_t *output, size_t output_len);
 
 /*
  * Builds the two tables of a generator, each of exactly 2^n entries.

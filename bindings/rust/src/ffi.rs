@@ -40,6 +40,24 @@ extern "C" {
         state: *mut u32,
     ) -> u32;
 
+    pub fn rangqoda_scatter(
+        rows: usize,
+        columns: usize,
+        input: *const u8,
+        input_len: usize,
+        output: *mut u8,
+        output_len: usize,
+    ) -> u32;
+
+    pub fn rangqoda_gather(
+        rows: usize,
+        columns: usize,
+        input: *const u8,
+        input_len: usize,
+        output: *mut u8,
+        output_len: usize,
+    ) -> u32;
+
     pub fn rangqoda_tables(
         generator: u64,
         step: *mut u16,

@@ -3,7 +3,8 @@
 //! A packet ends in a CRC and carries an Internet checksum (RFC 1071) over a part of its bytes, or none ([`NO_CHECKSUM`]). This
 //! crate takes [`remainder`]s and [`seal`]s packets, [`sum`]s and [`stamp`]s them, [`make`]s packets from a seed, lists all sets
 //! of at most so many bit errors that explain a remainder ([`page`], [`Tables::patterns`]), strikes those that the checksum
-//! contradicts, and [`repair`]s a packet where just one is left.
+//! contradicts, and [`repair`]s a packet where just one is left. Apart from packets, it [`scatter`]s bytes before storage and
+//! [`gather`]s them again.
 //!
 //! It is a safe wrapper over the C functions of a library whose every function is proved to meet its contract. The
 //! wrapper itself is not proved; it judges nothing, and passes every number, length and slice on as it got it. Whatever is
@@ -184,11 +185,15 @@ pub enum Refusal {
     Field = 10,
     /// 11: the initial or the final value is 2^n or more.
     Values = 11,
+    /// 12: the rows or the columns of a block are outside 1 to 64.
+    BlockShape = 12,
+    /// 13: a block's input or output has not as many bytes as rows times columns.
+    BlockLength = 13,
 }
 
 impl Refusal {
     /// Every refusal, lowest number first.
-    pub const ALL: [Refusal; 11] = [
+    pub const ALL: [Refusal; 13] = [
         Refusal::Generator,
         Refusal::Length,
         Refusal::Limit,
@@ -200,9 +205,11 @@ impl Refusal {
         Refusal::Range,
         Refusal::Field,
         Refusal::Values,
+        Refusal::BlockShape,
+        Refusal::BlockLength,
     ];
 
-    /// The number of the condition, 1 to 11.
+    /// The number of the condition, 1 to 13.
     pub const fn number(self) -> u32 {
         self as u32
     }
@@ -222,6 +229,8 @@ impl fmt::Display for Refusal {
             Refusal::Range => "the range ends before its start or reaches into the CRC",
             Refusal::Field => "the field is not whole in the range, or not an even number of bytes from its start",
             Refusal::Values => "the initial or the final value does not fit the degree",
+            Refusal::BlockShape => "the rows or the columns are outside 1 to 64",
+            Refusal::BlockLength => "the input or the output has not as many bytes as rows times columns",
         };
         write!(f, "refused {}: {}", self.number(), what)
     }
@@ -234,7 +243,7 @@ impl Error for Refusal {}
 fn judged(number: u32) -> Result<(), Refusal> {
     match number {
         0 => Ok(()),
-        1..=11 => Err(Refusal::ALL[number as usize - 1]),
+        1..=13 => Err(Refusal::ALL[number as usize - 1]),
         _ => unreachable!("the library answered {number}, which names no condition"),
     }
 }
@@ -507,6 +516,53 @@ pub fn make(crc: Crc, seed: u32, range: Range<usize>, field: usize, packet: &mut
         )
     })?;
     Ok(state)
+}
+
+/// Scatters bytes before storage: they are written into a block by rows and read by columns, so that `output[j * rows + i]` is
+/// `input[i * columns + j]`. Refused by 12, 13.
+///
+/// Of any run of adjacent bytes of the output, at most as many as there are rows, no two come from one row. So where such a run is
+/// lost, and as many other bytes stand in its place, [`gather`] gives back every row with at most one byte that differs. That byte
+/// is not restored: up to eight of its bits may be wrong, and a repair takes up to four.
+///
+/// ```
+/// use rangqoda::{gather, scatter};
+///
+/// // Three rows of four bytes; then three adjacent bytes are lost.
+/// let mut stored = [0; 12];
+/// scatter(3, 4, b"ROW1row2Row3", &mut stored)?;
+/// assert_eq!(stored, *b"RrROooWww123");
+/// stored[4..7].fill(b'?');
+///
+/// let mut restored = [0; 12];
+/// gather(3, 4, &stored, &mut restored)?;
+/// assert_eq!(restored, *b"RO?1r?w2R?w3");
+/// # Ok::<(), rangqoda::Refusal>(())
+/// ```
+pub fn scatter(rows: usize, columns: usize, input: &[u8], output: &mut [u8]) -> Result<(), Refusal> {
+    // SAFETY: as in `remainder`.
+    judged(unsafe {
+        ffi::rangqoda_scatter(rows, columns, input.as_ptr(), input.len(), output.as_mut_ptr(), output.len())
+    })
+}
+
+/// The way back from [`scatter`], with the same rows and columns: bytes are written by columns and read by rows, so that
+/// `output[i * columns + j]` is `input[j * rows + i]`. Each of the two undoes the other. Refused by 12, 13.
+///
+/// ```
+/// use rangqoda::{gather, Refusal};
+///
+/// let mut restored = [0; 6];
+/// gather(2, 3, b"adbecf", &mut restored)?;
+/// assert_eq!(restored, *b"abcdef");
+/// assert_eq!(gather(2, 3, b"adbec", &mut restored), Err(Refusal::BlockLength));
+/// # Ok::<(), Refusal>(())
+/// ```
+pub fn gather(rows: usize, columns: usize, input: &[u8], output: &mut [u8]) -> Result<(), Refusal> {
+    // SAFETY: as in `remainder`.
+    judged(unsafe {
+        ffi::rangqoda_gather(rows, columns, input.as_ptr(), input.len(), output.as_mut_ptr(), output.len())
+    })
 }
 
 /// Fills the two lent tables of a generator, each of exactly 2^n entries, and returns the period: the smallest positive c

@@ -11,6 +11,7 @@ use patterns::Mark;
 use patterns::Pattern;
 use repair::RepairAnswer;
 use repair::Verdict;
+use scatter::BlockAnswer;
 use tables::TablesAnswer;
 ghost use mathlib.Core.Path.{_≡_};
 ghost use mathlib.Core.List.{[], _∷_};
@@ -30,6 +31,7 @@ ghost use Rattle.pages.specs.Conditions.{pageRequest};
 ghost use Rattle.pages.specs.Calls.{pageCall, pageLeft};
 ghost use Rattle.repair.specs.Verdicts.{said};
 ghost use Rattle.repair.specs.Calls.{repairCall};
+ghost use Rattle.scatter.specs.Calls.{blockAnswer, blockCall, scatterOutput, gatherOutput};
 ghost use Rattle.rangqoda.specs.Codes.{code, changed};
 ghost use Rattle.rangqoda.specs.Marks.{placeOfBytes, malformed, padded, markBytes};
 ghost use Rattle.rangqoda.specs.Pages.{markAfter, usedAfter, writtenAfter};
@@ -167,6 +169,42 @@ pub extern "C" fn rangqoda_tables(
             0
         }
     }
+}
+
+// What either way of rearranging a block returns.
+fn block_code(answer: BlockAnswer) -> u32
+    ensures { λ r. ⌜ r ≡ code (blockAnswer answer) ⌝ }
+{
+    match answer {
+        BlockAnswer::Refused(r) => base::number_of(r),
+        BlockAnswer::Rearranged => 0,
+    }
+}
+
+#[no_mangle]
+pub extern "C" fn rangqoda_scatter(
+    rows: usize,
+    columns: usize,
+    input: &[u8],
+    output: &mut [u8],
+) -> u32
+    ensures answer { λ r. ⌜ r ≡ code (blockCall rows columns (now (input .entry)) (now (output .entry))) ⌝ }
+    ensures output { λ _. ⌜ now (output .exit) ≡ scatterOutput rows columns (now (input .entry)) (now (output .entry)) ⌝ }
+{
+    block_code(scatter::scatter(rows, columns, input, output))
+}
+
+#[no_mangle]
+pub extern "C" fn rangqoda_gather(
+    rows: usize,
+    columns: usize,
+    input: &[u8],
+    output: &mut [u8],
+) -> u32
+    ensures answer { λ r. ⌜ r ≡ code (blockCall rows columns (now (input .entry)) (now (output .entry))) ⌝ }
+    ensures output { λ _. ⌜ now (output .exit) ≡ gatherOutput rows columns (now (input .entry)) (now (output .entry)) ⌝ }
+{
+    block_code(scatter::gather(rows, columns, input, output))
 }
 
 // A mark that no length and no limit makes fit: what bytes that are no mark are taken for.
