@@ -661,6 +661,79 @@ static void no_checksum(void)
     EXPECT(state == 77 && memcmp(packet, sent, 3) == 0);
 }
 
+/* One way of rearranging a block, of at most 65 times 65 bytes, with a byte on either side of both slices that is not lent. The input is
+   1 to 251, over and over, and all else EEh before. Tells how many things are wrong: the answer, bytes of the input or not lent that
+   changed, bytes of the output. */
+static unsigned block(int back, size_t rows, size_t columns, size_t input_len, size_t output_len, uint32_t number)
+{
+    static uint8_t lent[2][1 + 65 * 65 + 1];
+    uint8_t *input = lent[0] + 1, *output = lent[1] + 1;
+    unsigned wrong;
+
+    memset(lent, 0xEE, sizeof lent);
+    for (size_t k = 0; k < input_len; k++)
+        input[k] = (uint8_t)(k % 251 + 1);
+    wrong = (back ? rangqoda_gather : rangqoda_scatter)(rows, columns, input, input_len, output, output_len) != number;
+    for (size_t k = 0; k < input_len; k++)
+        wrong += input[k] != (uint8_t)(k % 251 + 1);
+    for (size_t k = 0; number && k < output_len; k++)
+        wrong += output[k] != 0xEE;
+    wrong += lent[0][0] != 0xEE || input[input_len] != 0xEE || lent[1][0] != 0xEE || output[output_len] != 0xEE;
+    /* each byte of an accepted input: in which row and column it is written, and where these are read */
+    for (size_t k = 0; !number && k < input_len; k++) {
+        size_t row = back ? k % rows : k / columns, column = back ? k / rows : k % columns;
+
+        wrong += output[back ? row * columns + column : column * rows + row] != input[k];
+    }
+    return wrong;
+}
+
+/* Both ways, with lengths that fit and with each of them off by one. */
+static unsigned block_near(size_t rows, size_t columns)
+{
+    size_t bytes = rows * columns;
+    unsigned wrong = 0;
+
+    for (int back = 0; back < 2; back++) {
+        wrong += block(back, rows, columns, bytes, bytes, RANGQODA_ACCEPTED);
+        wrong += block(back, rows, columns, bytes - 1, bytes, RANGQODA_REFUSED_BLOCK_LENGTH);
+        wrong += block(back, rows, columns, bytes + 1, bytes, RANGQODA_REFUSED_BLOCK_LENGTH);
+        wrong += block(back, rows, columns, bytes, bytes - 1, RANGQODA_REFUSED_BLOCK_LENGTH);
+        wrong += block(back, rows, columns, bytes, bytes + 1, RANGQODA_REFUSED_BLOCK_LENGTH);
+    }
+    return wrong;
+}
+
+static void blocks(void)
+{
+    static const size_t unfit[] = { 0, 65, 128, (size_t)1 << 32, (size_t)1 << 63, SIZE_MAX };
+    uint8_t six[6] = { 0 };
+
+    EXPECT(rangqoda_scatter(2, 3, (const uint8_t *)"abcdef", 6, six, 6) == RANGQODA_ACCEPTED);
+    EXPECT(memcmp(six, "adbecf", 6) == 0);
+    EXPECT(rangqoda_gather(2, 3, (const uint8_t *)"adbecf", 6, six, 6) == RANGQODA_ACCEPTED);
+    EXPECT(memcmp(six, "abcdef", 6) == 0);
+
+    for (size_t rows = 1; rows <= 8; rows++)
+        for (size_t columns = 1; columns <= 8; columns++)
+            EXPECT(block_near(rows, columns) == 0);
+    EXPECT(block_near(1, 64) == 0);
+    EXPECT(block_near(64, 1) == 0);
+    EXPECT(block_near(64, 64) == 0);
+
+    /* 12 before 13: with lengths that are the product modulo 2^64, where that is small, and with others */
+    for (size_t k = 0; k < sizeof unfit / sizeof *unfit; k++)
+        for (int back = 0; back < 2; back++) {
+            for (size_t m = 0; m < sizeof unfit / sizeof *unfit; m++) {
+                size_t product = unfit[k] * unfit[m], bytes = product <= 65 * 65 ? product : 9;
+
+                EXPECT(block(back, unfit[k], unfit[m], bytes, bytes, RANGQODA_REFUSED_BLOCK_SHAPE) == 0);
+            }
+            EXPECT(block(back, unfit[k], 1, 65, 65, RANGQODA_REFUSED_BLOCK_SHAPE) == 0);
+            EXPECT(block(back, 1, unfit[k], 65, 64, RANGQODA_REFUSED_BLOCK_SHAPE) == 0);
+        }
+}
+
 int main(void)
 {
     remainder_and_seal();
@@ -679,6 +752,7 @@ int main(void)
     repairs();
     several_names_the_earliest();
     no_checksum();
+    blocks();
     printf("%d checks, %d failed\n", checks, failures);
     return failures != 0;
 }

@@ -2,8 +2,8 @@
 //! name, the check values of the catalogue of parametrised CRC algorithms, and packets made by `tests/maker_vectors.py`.
 
 use rangqoda::{
-    catalogue, hand_back, make, page, remainder, repair, seal, stamp, sum, Crc, Mark, Pattern, Refusal, TableSlices,
-    Tables, Verdict, CCITT, FIVE, NO_CHECKSUM, NO_POSITION,
+    catalogue, gather, hand_back, make, page, remainder, repair, scatter, seal, stamp, sum, Crc, Mark, Pattern,
+    Refusal, TableSlices, Tables, Verdict, CCITT, FIVE, NO_CHECKSUM, NO_POSITION,
 };
 use std::ops::Range;
 
@@ -240,6 +240,27 @@ fn the_small_inputs_of_the_refusals() {
     assert_eq!(stamp(CCITT, 0..4, 1, &mut [0; 8]), Err(Refusal::Field));
     assert_eq!(remainder(Crc { generator: FIVE, init: 32, xorout: 0 }, &[0]), Err(Refusal::Values));
     assert_eq!(seal(Crc { generator: FIVE, init: 0, xorout: 32 }, &mut [0]), Err(Refusal::Values));
+    for (rows, columns) in [(65, 1), (1, 65), (0, 1), (1, 0)] {
+        assert_eq!(scatter(rows, columns, &[0; 65], &mut [0; 65]), Err(Refusal::BlockShape));
+        assert_eq!(gather(rows, columns, &[0; 65], &mut [0; 65]), Err(Refusal::BlockShape));
+    }
+    assert_eq!(scatter(2, 3, &[0; 5], &mut [0; 6]), Err(Refusal::BlockLength));
+    assert_eq!(gather(2, 3, &[0; 6], &mut [0; 5]), Err(Refusal::BlockLength));
+}
+
+#[test]
+fn six_bytes_in_two_rows() {
+    let mut stored = [0; 6];
+    assert_eq!(scatter(2, 3, b"abcdef", &mut stored), Ok(()));
+    assert_eq!(stored, *b"adbecf");
+    let mut restored = [0; 6];
+    assert_eq!(gather(2, 3, &stored, &mut restored), Ok(()));
+    assert_eq!(restored, *b"abcdef");
+    // rows and columns exchanged give other bytes, each way
+    assert_eq!(scatter(3, 2, b"abcdef", &mut stored), Ok(()));
+    assert_eq!(stored, *b"acebdf");
+    assert_eq!(gather(3, 2, b"acebdf", &mut restored), Ok(()));
+    assert_eq!(restored, *b"abcdef");
 }
 
 // ---- the traps

@@ -255,6 +255,26 @@ pub fn make(call: &MakeCall, packet: &[u8]) -> (u32, Vec<u8>, u32) {
     (number, lent.content().to_vec(), state.content()[0])
 }
 
+#[derive(Clone, Copy, Debug)]
+pub enum Way {
+    Scatter,
+    Gather,
+}
+
+pub const WAYS: [Way; 2] = [Way::Scatter, Way::Gather];
+
+pub fn rearrange(way: Way, rows: usize, columns: usize, input: &[u8], output: &[u8]) -> (u32, Vec<u8>) {
+    let call = match way {
+        Way::Scatter => ffi::rangqoda_scatter,
+        Way::Gather => ffi::rangqoda_gather,
+    };
+    let lent = Guarded::new(input);
+    let mut written = Guarded::new(output);
+    let number = unsafe { call(rows, columns, lent.as_ptr(), input.len(), written.as_mut_ptr(), output.len()) };
+    lent.kept(input);
+    (number, written.content().to_vec())
+}
+
 #[derive(Clone, Debug, PartialEq, Eq)]
 pub struct Built {
     pub step: Vec<u16>,

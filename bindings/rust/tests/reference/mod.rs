@@ -462,3 +462,38 @@ pub fn repair(of: &RepairOf<'_>, output: &mut [u8]) -> Answer<Verdict> {
         [pattern, ..] => Verdict::Several(passing.len() as u64, pattern.clone()),
     })
 }
+
+// ---- blocks
+
+fn block_fits(rows: usize, columns: usize, input: &[u8], output: &[u8]) -> Answer<()> {
+    if rows == 0 || rows > 64 || columns == 0 || columns > 64 {
+        return Err(12);
+    }
+    if input.len() != rows * columns || output.len() != rows * columns {
+        return Err(13);
+    }
+    Ok(())
+}
+
+/// Each row is a chunk of the input. A column has one byte of each row.
+pub fn scatter(rows: usize, columns: usize, input: &[u8], output: &mut [u8]) -> Answer<()> {
+    block_fits(rows, columns, input, output)?;
+    let mut block: Vec<_> = input.chunks(columns).map(|row| row.iter()).collect();
+    for column in output.chunks_mut(rows) {
+        for (byte, row) in column.iter_mut().zip(&mut block) {
+            *byte = *row.next().expect("a row has a byte for each column");
+        }
+    }
+    Ok(())
+}
+
+/// Bytes go down one column after the other; then the rows are joined.
+pub fn gather(rows: usize, columns: usize, input: &[u8], output: &mut [u8]) -> Answer<()> {
+    block_fits(rows, columns, input, output)?;
+    let mut block = vec![Vec::new(); rows];
+    for (&byte, row) in input.iter().zip((0..rows).cycle()) {
+        block[row].push(byte);
+    }
+    output.copy_from_slice(&block.concat());
+    Ok(())
+}
