@@ -400,7 +400,7 @@ uint32_t rangqoda_make(uint64_t generator, uint64_t initial, uint64_t final,
  * no two come from one row. So where such a run is lost, and as many other bytes
  * stand in its place, rangqoda_gather gives back every row with at most one byte
  * that differs. That byte is not restored: up to eight of its bits may be wrong,
- * and a repair takes up to four.
+ * and a repair explains at most four.
  *
  * Refused by 12, 13. Otherwise writes all bytes of output, which must not overlap
  * the input.
