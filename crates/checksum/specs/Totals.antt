@@ -8,6 +8,7 @@ use lib.ListN.{length}
 use Rattle.base.specs.Outcome.{pick}
 use Rattle.packet.specs.Packet.{Bytes, bitAt}
 use Rattle.checksum.specs.Checksum.{total, range}
+use Rattle.checksum.specs.declared.Change.{Change}
 use Rattle.checksum.specs.declared.Weighed.{Weighed}
 
 -- whether a plain total is a positive multiple of FFFFh
@@ -35,9 +36,20 @@ unfoldable pub clearWeight : ℕ → ℕ → List ℕ → List ℕ → ℕ
 clearWeight a e s [] = 0
 clearWeight a e s (p ∷ ps) = (1 - bitAt s p) * weight a e s p + clearWeight a e s ps
 
--- w is a check of the packet s, with the total of its range
-pub record Weighs (w : Weighed) (s : List ℕ) : Type 0 where
+-- what the flip of position p adds to the total of the range and takes away from it, none of it above 2 ^ 15
+pub record Changes (r : Change) (a e : ℕ) (s : List ℕ) (p : ℕ) : Type 0 where
+  pub adds : r .plus ≡ (1 - bitAt s p) * weight a e s p
+  pub takes : r .minus ≡ bitAt s p * weight a e s p
+  pub few : r .plus ≤ 32768
+  pub less : r .minus ≤ 32768
+
+-- t is the total of the bytes from a on and before e of the packet s
+pub record Totalled (a e t : ℕ) (s : List ℕ) : Type 0 where
   pub bytes : Bytes s
   pub short : length s ≤ 512
-  pub inside : w .check .to ≤ length s
-  pub known : w .total ≡ total (range (w .check .from) (w .check .to) s)
+  pub inside : e ≤ length s
+  pub known : t ≡ total (range a e s)
+
+-- w is a check of the packet s, with the total of its range
+pub record Weighs (w : Weighed) (s : List ℕ) : Type 0 where
+  pub summed : Totalled (w .check .from) (w .check .to) (w .total) s

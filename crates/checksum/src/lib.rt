@@ -20,7 +20,7 @@ ghost use Rattle.checksum.specs.Checksum.{
   withField,
   stamped,
 };
-ghost use Rattle.checksum.specs.Totals.{multiple, share, weight, Weighs};
+ghost use Rattle.checksum.specs.Totals.{multiple, share, weight, Changes, Totalled, Weighs};
 ghost use Rattle.checksum.specs.Calls.{
   sumCall,
   stampConditions,
@@ -40,6 +40,12 @@ pub struct Check {
 pub struct Weighed {
     pub check: Check,
     pub total: u64,
+}
+
+// What a flip adds to a total, and what it takes away.
+struct Change {
+    plus: u64,
+    minus: u64,
 }
 
 pub enum StampAnswer {
@@ -147,24 +153,33 @@ fn weight_of(packet: &[u8], from: usize, to: usize, p: usize) -> u64
     share << (p % 8)
 }
 
-// The total of the range once the positions are flipped, from the total before.
-fn flipped_total(w: Weighed, packet: &[u8], pos: &[u16]) -> u64
-    requires { ⌜ Weighs w (now packet) × Ascending (bits (now packet)) 0 (now pos) ⌝ }
-    ensures { λ r. ⌜ r ≡ total (range (w .check .from) (w .check .to) (flips (now (packet .entry)) (now (pos .entry)))) ⌝ }
+// What the flip of one position adds to the total of a range, and what it takes away. A bit outside the range is not looked at.
+fn change_of(packet: &[u8], from: usize, to: usize, p: usize) -> Change
+    requires { ⌜ p < bits (now packet) ⌝ }
+    ensures { λ r. ⌜ Changes r from to (now (packet .entry)) p ⌝ }
 {
-    let check = w.check;
-    let from = check.from;
-    let to = check.to;
-    let before = w.total;
+    let weight = weight_of(packet, from, to, p);
+    if weight == 0 {
+        return Change { plus: 0, minus: 0 };
+    }
+    let b = bit_of(packet, p);
+    let plus = (1 - b) * weight;
+    let minus = b * weight;
+    Change { plus, minus }
+}
+
+// The total of a range once the positions are flipped, from the total before.
+fn flipped_total(from: usize, to: usize, before: u64, packet: &[u8], pos: &[u16]) -> u64
+    requires { ⌜ Totalled from to before (now packet) × Ascending (bits (now packet)) 0 (now pos) ⌝ }
+    ensures { λ r. ⌜ r ≡ total (range from to (flips (now (packet .entry)) (now (pos .entry)))) ⌝ }
+{
     let mut plus: u64 = 0;
     let mut minus: u64 = 0;
     let mut i: usize = 0;
     while i < pos.len() {
-        let p = pos[i] as usize;
-        let weight = weight_of(packet, from, to, p);
-        let b = bit_of(packet, p);
-        plus += (1 - b) * weight;
-        minus += b * weight;
+        let change = change_of(packet, from, to, pos[i] as usize);
+        plus += change.plus;
+        minus += change.minus;
         i += 1;
     }
     before + plus - minus
@@ -181,7 +196,7 @@ pub fn passes_flipped(w: Weighed, packet: &[u8], pos: &[u16]) -> bool
     if from == to {
         return true;
     }
-    decide(flipped_total(w, packet, pos))
+    decide(flipped_total(from, to, w.total, packet, pos))
 }
 
 // The same of the packet as it stands.

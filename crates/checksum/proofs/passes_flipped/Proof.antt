@@ -21,7 +21,7 @@ returns-2 c =
     let p = s .args .packet .now in
     let q = s .args .pos .now in
     c .decide .ensures ∙ ap multiple (c .before .flipped-total .ensures)
-    ∙ sym (passes-total (s .args .w .check) (flips p q) (λ e. omega (arith, e, i .if1 .left)) (flips-bytes p q (ascending-all (s .pre .1)) (s .pre .0 .bytes)))
+    ∙ sym (passes-total (s .args .w .check) (flips p q) (λ e. omega (arith, e, i .if1 .left)) (flips-bytes p q (ascending-all (s .pre .1)) (s .pre .0 .summed .bytes)))
 
 pub passes-flipped-spec : {M : Type 1} → statement M
 passes-flipped-spec = tie.close (tie.spec returns (λ c κs. search needs) (λ c κs. search needs) returns-2)

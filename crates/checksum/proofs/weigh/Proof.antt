@@ -9,7 +9,7 @@ returns : tie.Need-returns
 unfolding range
 returns c =
     let p = c .before .before .before .pre in
-    (refl, record { bytes = p .0; short = p .1; inside = p .3; known = c .total-of .ensures })
+    (refl, record { summed = record { bytes = p .0; short = p .1; inside = p .3; known = c .total-of .ensures } })
 
 pub weigh-spec : {M : Type 1} → statement M
 weigh-spec =
