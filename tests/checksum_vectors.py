@@ -36,7 +36,8 @@ def stamp(generator, a, e, field, packet):
     if unfit_field(a, e, field):
         return 10
     packet[field : field + 2] = bytes(2)
-    packet[field : field + 2] = (0xFFFF - sum_of(packet[a:e])).to_bytes(2, "big")
+    computed = 0xFFFF - sum_of(packet[a:e])
+    packet[field : field + 2] = (computed or 0xFFFF).to_bytes(2, "big")
     return 0
 
 
@@ -98,6 +99,15 @@ out.append(f"{stamp(FIVE, 0, 2, 0, bytearray(513)):x}")
 
 show_places(FIVE)
 show_places(CCITT)
+
+for a, e, field, text in (
+    (0, 4, 2, "ffff123400"),
+    (0, 4, 0, "0000ffff00"),
+    (1, 7, 3, "091234ffffedcb00"),
+    (0, 5, 2, "feff00000180"),
+    (1, 6, 1, "ff123400ffff00"),
+):
+    show_stamp(FIVE, a, e, field, bytearray.fromhex(text))
 
 most = bytearray(filled(512, 9))
 show_both(FIVE, 0, 511, 508, most)

@@ -9,12 +9,12 @@ from anywhere:
 """
 from pathlib import Path
 
-from reference import CCITT, FIVE, checksum, filled, fnv, next_state, remainder_of
+from reference import CCITT, FIVE, checksum, filled, fnv, next_state, remainder_of, stamped
 from reference import unfit_field, unfit_generator, unfit_length, unfit_range, unfit_values
 
 TARGET = Path(__file__).resolve().parent.parent / "crates" / "maker_test" / "stdout"
 
-SEEDS = [0, 1, 255, 65536, 2**31, 2**32 - 2, 2**32 - 1]
+SEEDS = [0, 1, 65871, 65536, 2**31, 2**32 - 2, 2**32 - 1]  # from 65871 eight bytes come for which zero is computed
 GENERATORS = [9, FIVE, CCITT, 131071, 131073]
 VALUES = [0, 6, 65535, 65536]
 LENGTHS = [0, 3, 8, 64, 512, 513]
@@ -65,9 +65,7 @@ def refusal(generator, initial, final, start, end, field, length):
 
 def made(generator, initial, final, seed, start, end, field, length):
     """The packet: the bytes drawn, with the field made to fit the range and then the last bits made to leave nothing."""
-    packet = bytearray(filled(length, seed))
-    packet[field : field + 2] = bytes(2)
-    packet[field : field + 2] = (0xFFFF - checksum(packet[start:end])).to_bytes(2, "big")
+    packet = stamped(filled(length, seed), start, end, field)
     value = int.from_bytes(packet, "big") ^ remainder_of(packet, generator, initial, final)
     packet = value.to_bytes(length, "big")
     assert checksum(packet[start:end]) == 0xFFFF and remainder_of(packet, generator, initial, final) == 0
@@ -81,7 +79,7 @@ assert states(0, 11) == [
 ]  # fmt: skip
 out = [" ".join(map(str, states(seed, 11))) + " " for seed in SEEDS]
 
-case, mixed, accepted = 0, 2166136261, 0
+case, mixed, accepted, zeros = 0, 2166136261, 0, 0
 for generator in GENERATORS:
     for length in LENGTHS:
         for initial in VALUES:
@@ -97,12 +95,15 @@ for generator in GENERATORS:
                         line += f"s{state_after(seed, length)} "
                         packet = made(generator, initial, final, seed, *place, length)
                         accepted += 1
+                        start, end, field = place
+                        zeros += checksum(packet[start:field] + bytes(2) + packet[field + 2 : end]) == 0xFFFF
                     mixed = fnv(packet, mixed)
                     case += 1
             out.append(f"{line}{mixed}")
 
 TARGET.write_text("\n".join(out) + "\n")
-print(f"{case} calls, {accepted} of them accepted")
+assert zeros > 0
+print(f"{case} calls, {accepted} of them accepted, {zeros} with a computed zero")
 
 for crc in ((CCITT, 0, 0), (CCITT, 0xFFFF, 0), (CCITT, 0xFFFF, 0xFFFF), (FIVE, 31, 9)):
     for seed in (0, 1, 2**32 - 1):

@@ -53,8 +53,13 @@ def unfit_range(generator, bits, start, end):
 
 
 def unfit_field(start, end, field):
-    """Condition 10."""
+    """Condition 10, as stamp and the packet maker test it."""
     return not start <= field <= end - 2 or (field - start) % 2 == 1
+
+
+def unfit_check_field(start, end, field):
+    """Condition 10, as a repair tests it."""
+    return start < end and unfit_field(start, end, field)
 
 
 def checksum(data):
@@ -66,9 +71,18 @@ def checksum(data):
     return total
 
 
-def passes(packet, start, end):
-    """The second check: there is none where the range begins and ends at one place."""
-    return start == end or checksum(packet[start:end]) == 0xFFFF
+def passes(packet, start, end, field):
+    """The second check: there is none where the range begins and ends at one place, and no sum is taken where the field is 0."""
+    if start == end or packet[field : field + 2] == bytes(2):
+        return True
+    return checksum(packet[start:end]) == 0xFFFF
+
+
+def stamped(packet, start, end, field):
+    """The packet whose field makes the sum of the range FFFFh; a computed zero is written as FFFFh."""
+    rest = packet[:field] + bytes(2) + packet[field + 2 :]
+    computed = checksum(rest[start:end]) ^ 0xFFFF
+    return packet[:field] + (computed or 0xFFFF).to_bytes(2, "big") + packet[field + 2 :]
 
 
 def next_state(state):

@@ -30,36 +30,36 @@ module _ (n l : ℕ) (k : Check) where
       let ordered : k .from ≤ k .to = ltb-false _ _ t in
       record { ordered = ordered; whole = ltb-false _ _ (sym (range-unfit ordered) ∙ h) })
 
-module _ (k : Check) (f : ℕ) where
-  pub before-unfit : f < k .from → unfitField k f ≡ true
+module _ (k : Check) where
+  pub before-unfit : k .field < k .from → unfitField k ≡ true
   unfolding unfitField
   before-unfit h = simp (lt-ltb _ _ h)
 
-  pub past-unfit : k .to < f + 2 → unfitField k f ≡ true
+  pub past-unfit : k .to < k .field + 2 → unfitField k ≡ true
   unfolding unfitField
   past-unfit h = simp (lt-ltb _ _ h, or-true)
 
   -- an empty range has no room for a field
-  pub empty-field-unfit : k .from ≡ k .to → unfitField k f ≡ true
-  empty-field-unfit e = by-order f (k .from) (λ h. before-unfit h) (λ h. past-unfit (omega arith))
+  pub empty-field-unfit : k .from ≡ k .to → unfitField k ≡ true
+  empty-field-unfit e = by-order (k .field) (k .from) (λ h. before-unfit h) (λ h. past-unfit (omega arith))
 
-  pub field-unfit : k .from ≤ f → f + 2 ≤ k .to → unfitField k f ≡ eqb ((f - k .from) % 2) 1
+  pub field-unfit : k .from ≤ k .field → k .field + 2 ≤ k .to → unfitField k ≡ eqb ((k .field - k .from) % 2) 1
   unfolding unfitField
   field-unfit h l = simp (le-ltb _ _ h, le-ltb _ _ l)
 
   -- a field that condition 10 lets pass
   pub record FitField : Type 0 where
-    pub after : k .from ≤ f
-    pub within : f + 2 ≤ k .to
-    pub even : (f - k .from) % 2 ≡ 0
+    pub after : k .from ≤ k .field
+    pub within : k .field + 2 ≤ k .to
+    pub even : (k .field - k .from) % 2 ≡ 0
 
-  pub fit-field : unfitField k f ≡ false → FitField
+  pub fit-field : unfitField k ≡ false → FitField
   fit-field h =
-      by-test (ltb f (k .from)) (λ t. absurd (true≢false (sym (before-unfit (ltb-true _ _ t)) ∙ h)))
+      by-test (ltb (k .field) (k .from)) (λ t. absurd (true≢false (sym (before-unfit (ltb-true _ _ t)) ∙ h)))
       (λ t.
-      by-test (ltb (k .to) (f + 2)) (λ u. absurd (true≢false (sym (past-unfit (ltb-true _ _ u)) ∙ h)))
+      by-test (ltb (k .to) (k .field + 2)) (λ u. absurd (true≢false (sym (past-unfit (ltb-true _ _ u)) ∙ h)))
       (λ u.
-      let after : k .from ≤ f = ltb-false _ _ t in
-      let within : f + 2 ≤ k .to = ltb-false _ _ u in
-      let odd = eqb-false ((f - k .from) % 2) 1 (sym (field-unfit after within) ∙ h) in
+      let after : k .from ≤ k .field = ltb-false _ _ t in
+      let within : k .field + 2 ≤ k .to = ltb-false _ _ u in
+      let odd = eqb-false ((k .field - k .from) % 2) 1 (sym (field-unfit after within) ∙ h) in
       record { after = after; within = within; even = omega arith }))

@@ -1,21 +1,23 @@
--- How the total of a range changes with one byte of the packet: by what that byte counts there, which is nothing outside the range.
+-- What decides the second check: the ends of the range, the field, or the total of the range. And how that total changes with one byte
+-- of the packet: by what that byte counts there, which is nothing outside the range; the number in a field is such a total too.
 -- The induction over the range takes two bytes, one word, at a time.
-use mathlib.Core.Path.{_≡_, refl, ap, _∙_}
-use mathlib.Core.Bool.{true}
+use mathlib.Core.Path.{_≡_, refl, ap, ap₂, _∙_}
+use mathlib.Core.Bool.{true, _||_, or-true}
+use mathlib.Core.Logic.{_≢_}
 use mathlib.Core.List.{List, [], _∷_}
 use Prim.Native.Nat.{ℕ, zero, suc, _+_, _-_, _*_, _%_, _<_, _≤_}
 use native.Mathlib.Omega.{arith}
-use borrow.Author.Tests.{lt-ltb, le-ltb, le-leb, lt-leb, eq-eqb, ne-eqb}
+use borrow.Author.Tests.{lt-ltb, le-ltb, le-leb, lt-leb, eq-eqb, ne-eqb, eqb-false}
 use lib.Dec.{eqb, leb}
 use lib.ListN.{length, getD, take, drop, set, length-take, length-drop, List·getD-eq-default}
 use lib.Seq.{getD-take, getD-drop, drop-set-lt, drop-set-add, take-set-le, take-set-lt}
 use Rattle.base.specs.Outcome.{pick}
 use Rattle.base.proofs.Cases.{by-test, by-order}
 use Rattle.packet.specs.Packet.{Bytes}
-use Rattle.checksum.specs.Checksum.{sumOf, total, range, passes}
+use Rattle.checksum.specs.Checksum.{sumOf, total, range, fieldOf, passes}
 use Rattle.checksum.specs.Totals.{multiple, wordWeight, share}
 use Rattle.checksum.specs.declared.Check.{Check}
-use Rattle.checksum.proofs.SumLaws.{total-one, total-two, sum-multiple}
+use Rattle.checksum.proofs.SumLaws.{total-one, total-two, total-turn, total-past, sum-multiple}
 
 -- the elements of a part are bytes, and so is what is written
 pub drop-bytes : (a : ℕ) (s : List ℕ) → Bytes s → Bytes (drop a s)
@@ -42,13 +44,28 @@ pub no-check-passes : (k : Check) (s : List ℕ) → k .from ≡ k .to → passe
 unfolding passes
 no-check-passes k s h = simp (eq-eqb _ _ h)
 
--- and where there is one, the sum of the range decides, or its plain total
-pub sum-decides : (k : Check) (s : List ℕ) → (k .from ≡ k .to → ⊥) → passes k s ≡ eqb (sumOf (range (k .from) (k .to) s)) 65535
+-- and so does one whose field says that no checksum was made
+pub zero-field-passes : (k : Check) (s : List ℕ) → fieldOf (k .field) s ≡ 0 → passes k s ≡ true
 unfolding passes
-sum-decides k s h = simp (ne-eqb _ _ h)
+zero-field-passes k s h = simp (eq-eqb _ _ h, or-true)
 
-pub passes-total : (k : Check) (s : List ℕ) → (k .from ≡ k .to → ⊥) → Bytes s → passes k s ≡ multiple (total (range (k .from) (k .to) s))
-passes-total k s h b = sum-decides k s h ∙ sum-multiple (range (k .from) (k .to) s) (range-bytes (k .from) (k .to) s b)
+-- else the sum of the range decides, or its plain total
+pub sum-decides : (k : Check) (s : List ℕ) → k .from ≢ k .to → fieldOf (k .field) s ≢ 0
+    → passes k s ≡ eqb (sumOf (range (k .from) (k .to) s)) 65535
+unfolding passes
+sum-decides k s h m = simp (ne-eqb _ _ h, ne-eqb _ _ m)
+
+-- packets of one range and one field pass alike
+pub passes-alike : (k : Check) (s t : List ℕ) → (k .from ≢ k .to → fieldOf (k .field) s ≡ fieldOf (k .field) t) → range (k .from) (k .to) s ≡ range (k .from) (k .to) t
+    → passes k s ≡ passes k t
+unfolding passes
+passes-alike k s t f r =
+    by-test (eqb (k .from) (k .to)) (λ e. rw e refl)
+    (λ e. ap₂ (λ (x : ℕ) (l : List ℕ). eqb (k .from) (k .to) || eqb x 0 || eqb (sumOf l) 65535) (f (eqb-false _ _ e)) r)
+
+pub passes-total : (k : Check) (s : List ℕ) → k .from ≢ k .to → fieldOf (k .field) s ≢ 0 → Bytes s
+    → passes k s ≡ multiple (total (range (k .from) (k .to) s))
+passes-total k s h m b = sum-decides k s h m ∙ sum-multiple (range (k .from) (k .to) s) (range-bytes (k .from) (k .to) s b)
 
 pub range-length : (a e : ℕ) (s : List ℕ) → e ≤ length s → length (range a e s) ≡ e - a
 unfolding range
@@ -126,3 +143,13 @@ total-range-set a e i v s h =
     rw (share-within a e i g l, range-within a e i v s g l, ← getD-range a e i s g l)
     (total-set (range a e s) (i - a) v (omega (arith, range-length a e s h))))
     (λ m. rw (share-above a e i m, range-above a e i v s g m) (omega arith)))
+
+-- the field is a range of two bytes, and the number in it is their total
+pub field-total : (f : ℕ) (s : List ℕ) → f + 2 ≤ length s → total (range f (f + 2) s) ≡ fieldOf f s
+unfolding fieldOf
+field-total f s h =
+    let r = range f (f + 2) s in
+    let long = range-length f (f + 2) s h in
+    let high : getD r 0 0 ≡ getD s f 0 = ap (λ (x : ℕ). getD r x 0) (omega arith) ∙ getD-range f (f + 2) f s (omega arith) (omega arith) in
+    let low : getD r 1 0 ≡ getD s (f + 1) 0 = ap (λ (x : ℕ). getD r x 0) (omega arith) ∙ getD-range f (f + 2) (f + 1) s (omega arith) (omega arith) in
+    omega (arith, total-turn r 0 (getD r 0 0 * 256 + getD r 1 0) (omega arith) refl, total-past r 2 (omega arith), high, low)

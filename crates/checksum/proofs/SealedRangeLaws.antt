@@ -1,10 +1,10 @@
--- Sealing leaves the second check as it was: it changes the last n bits alone, and an accepted range ends before them. The bytes of a range are read off the polynomial divided by a power that the seal leaves as it was.
+-- Sealing leaves the second check as it was: it changes the last n bits alone, and an accepted range, with the field in it, ends before
+-- them. The bytes of a range are read off the polynomial divided by a power that the seal leaves as it was.
 use mathlib.Core.Path.{_≡_, sym, ap, _∙_}
-use mathlib.Core.Bool.{_||_}
+use mathlib.Core.Logic.{_≢_}
 use mathlib.Core.List.{List}
 use Prim.Native.Nat.{ℕ, _+_, _-_, _*_, _/_, _^_, _<_, _≤_}
 use native.Mathlib.Omega.{arith}
-use lib.Dec.{eqb}
 use lib.ListN.{length, take, drop, take-append-drop, length-drop}
 use lib.Pow.{high, shr-shr}
 use lib.Seq.{take-add, drop-at, length-take-le}
@@ -14,9 +14,9 @@ use Rattle.packet.specs.declared.Crc.{Crc}
 use Rattle.packet.proofs.FlipLaws.{polynomial-append, polynomial-lt, byte-power}
 use Rattle.packet.proofs.PacketLaws.{bytes-take}
 use Rattle.packet.proofs.SealLaws.{sealed-length, sealed-bytes, sealed-high}
-use Rattle.checksum.specs.Checksum.{sumOf, range, passes}
+use Rattle.checksum.specs.Checksum.{total, range, checkOf, fieldOf, passes}
 use Rattle.checksum.specs.declared.Check.{Check}
-use Rattle.checksum.proofs.RangeLaws.{drop-bytes}
+use Rattle.checksum.proofs.RangeLaws.{drop-bytes, passes-alike, field-total}
 use Rattle.checksum.proofs.ConditionLaws.{FitRange}
 
 -- the first bytes, read off the polynomial
@@ -66,8 +66,19 @@ sealed-range c k s d b fit =
     ∙ ap (drop (k .from)) (front-same (c .generator .degree) (k .to) s (sealed c s) b (sealed-bytes c d s b long) same (sealed-high c d s b long) (fit .whole))
     ∙ sym (range-front (k .from) (k .to) s (omega arith) (omega arith))
 
+-- and so an accepted field
+sealed-field : (c : Crc) (k : Check) (s : List ℕ) → Divisor (c .generator .degree) (c .generator .coefficients) → Bytes s
+    → FitRange (c .generator .degree) (bits s) k → k .field + 2 ≤ k .to → fieldOf (k .field) (sealed c s) ≡ fieldOf (k .field) s
+sealed-field c k s d b fit within =
+    let f : ℕ = k .field in
+    let inside : f + 2 ≤ length s = omega (arith, fit .whole) in
+    let same = sealed-length c d s b (omega (arith, fit .whole)) in
+    sym (field-total f (sealed c s) (omega arith))
+    ∙ ap total (sealed-range c (checkOf f (f + 2) f) s d b (record { ordered = omega arith; whole = omega (arith, fit .whole) }))
+    ∙ field-total f s inside
+
 -- so a packet passes the second check sealed as it did before
 pub sealed-passes : (c : Crc) (k : Check) (s : List ℕ) → Divisor (c .generator .degree) (c .generator .coefficients) → Bytes s
-    → FitRange (c .generator .degree) (bits s) k → passes k (sealed c s) ≡ passes k s
-unfolding passes
-sealed-passes c k s d b fit = ap (λ (l : List ℕ). eqb (k .from) (k .to) || eqb (sumOf l) 65535) (sealed-range c k s d b fit)
+    → FitRange (c .generator .degree) (bits s) k → (k .from ≢ k .to → k .field + 2 ≤ k .to) → passes k (sealed c s) ≡ passes k s
+sealed-passes c k s d b fit within =
+    passes-alike k (sealed c s) s (λ h. sealed-field c k s d b fit (within h)) (sealed-range c k s d b fit)

@@ -16,21 +16,21 @@ abbrev pub sumCall : List ℕ → ℕ
 sumCall s = sumOf s
 
 -- stamp is refused by 1, 2, 9 and 10
-abbrev pub stampConditions : ℕ → ℕ → Check → ℕ → List Condition
-stampConditions g l k f =
+abbrev pub stampConditions : ℕ → ℕ → Check → List Condition
+stampConditions g l k =
     when 1 (unfit g)
     ∷ when 2 (unfitLength (degree g) l)
     ∷ when 9 (unfitRange (degree g) l k)
-    ∷ when 10 (unfitField k f)
+    ∷ when 10 (unfitField k)
     ∷ []
 
 abbrev pub stampAnswer : StampAnswer → Outcome (Unit {0})
 stampAnswer Stamped = accepted tt
 stampAnswer (Refused r) = refused (number r)
 
-abbrev pub stampCall : ℕ → Check → ℕ → List ℕ → Outcome (Unit {0})
-stampCall g k f s = judge (stampConditions g (bits s) k f) refused (accepted tt)
+abbrev pub stampCall : ℕ → Check → List ℕ → Outcome (Unit {0})
+stampCall g k s = judge (stampConditions g (bits s) k) refused (accepted tt)
 
 -- the packet after the call
-abbrev pub stampPacket : ℕ → Check → ℕ → List ℕ → List ℕ
-stampPacket g k f s = judge (stampConditions g (bits s) k f) (λ _. s) (stamped k f s)
+abbrev pub stampPacket : ℕ → Check → List ℕ → List ℕ
+stampPacket g k s = judge (stampConditions g (bits s) k) (λ _. s) (stamped k s)

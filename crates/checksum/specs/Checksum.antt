@@ -1,9 +1,10 @@
--- The sum of RFC 1071 over a range of packet bytes, the second check that it makes, and the stamp that makes it pass.
+-- The sum of RFC 1071 over a range of packet bytes, the second check by range and field, and the stamp. What a field of 0 says, and
+-- what is written for a computed 0, is the rule of RFC 768.
 use Prim.Native.Nat.{ℕ, zero, suc, _+_, _-_, _*_, _/_, _%_}
 use mathlib.Core.Bool.{Bool, _||_}
 use mathlib.Core.List.{List, [], _∷_}
 use lib.Dec.{eqb, ltb}
-use lib.ListN.{take, drop, set}
+use lib.ListN.{getD, take, drop, set}
 use Rattle.checksum.specs.declared.Check.{Check}
 
 -- the 16-bit words of bytes, high byte first, with a zero byte added to an odd end
@@ -47,21 +48,27 @@ reduced (suc t) = suc (t % 65535)
 unfoldable pub range : ℕ → ℕ → List ℕ → List ℕ
 range a e s = take (e - a) (drop a s)
 
--- the check of the range from `from` on and before `to`; where both are one place there is no second check
-abbrev pub checkOf : ℕ → ℕ → Check
-checkOf from to = record { from = from; to = to }
+-- the check of the range from `from` on and before `to`, whose field stands at `field`; where both ends are one place there is
+-- no second check, and no field
+abbrev pub checkOf : ℕ → ℕ → ℕ → Check
+checkOf from to field = record { from = from; to = to; field = field }
 
--- whether a packet passes the second check: there is none, or the sum of its range is FFFFh
+-- the number in the two bytes of the field, high byte first
+unfoldable pub fieldOf : ℕ → List ℕ → ℕ
+fieldOf f s = getD s f 0 * 256 + getD s (f + 1) 0
+
+-- whether a packet passes the second check: there is none, its field says that no checksum was made, or the sum of its range
+-- is FFFFh
 unfoldable pub passes : Check → List ℕ → Bool
-passes k s = eqb (k .from) (k .to) || eqb (sumOf (range (k .from) (k .to) s)) 65535
+passes k s = eqb (k .from) (k .to) || eqb (fieldOf (k .field) s) 0 || eqb (sumOf (range (k .from) (k .to) s)) 65535
 
 -- condition 9, for a generator of degree n and a packet of l bits: the range ends before its start or reaches into the CRC
 unfoldable pub unfitRange : ℕ → ℕ → Check → Bool
 unfitRange n l k = ltb (k .to) (k .from) || ltb l (8 * k .to + n)
 
 -- condition 10: the field is not wholly in the range, or stands at an odd distance from its start
-unfoldable pub unfitField : Check → ℕ → Bool
-unfitField k f = ltb f (k .from) || ltb (k .to) (f + 2) || eqb ((f - k .from) % 2) 1
+unfoldable pub unfitField : Check → Bool
+unfitField k = ltb (k .field) (k .from) || ltb (k .to) (k .field + 2) || eqb ((k .field - k .from) % 2) 1
 
 -- ---- the stamp ----
 
@@ -69,6 +76,11 @@ unfitField k f = ltb f (k .from) || ltb (k .to) (f + 2) || eqb ((f - k .from) % 
 unfoldable pub withField : ℕ → ℕ → List ℕ → List ℕ
 withField f v s = set (set s f (v / 256)) (f + 1) (v % 256)
 
--- the packet whose field holds what the sum of the range, without the field, lacks to FFFFh
-unfoldable pub stamped : Check → ℕ → List ℕ → List ℕ
-stamped k f s = withField f (65535 - sumOf (range (k .from) (k .to) (withField f 0 s))) s
+-- what is written for a number computed: FFFFh for 0, since a field of 0 says that no checksum was made
+unfoldable pub asWritten : ℕ → ℕ
+asWritten zero = 65535
+asWritten (suc v) = suc v
+
+-- the packet whose field holds what the sum of the range, without the field, lacks to FFFFh, as it is written
+unfoldable pub stamped : Check → List ℕ → List ℕ
+stamped k s = withField (k .field) (asWritten (65535 - sumOf (range (k .from) (k .to) (withField (k .field) 0 s)))) s

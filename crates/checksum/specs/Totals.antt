@@ -2,6 +2,7 @@
 use Prim.Native.Nat.{ℕ, _+_, _-_, _*_, _/_, _%_, _^_, _≤_}
 use mathlib.Core.Path.{_≡_}
 use mathlib.Core.Bool.{Bool, _&&_}
+use mathlib.Core.Logic.{_≢_}
 use mathlib.Core.List.{List, [], _∷_}
 use lib.Dec.{eqb, leb, ltb}
 use lib.ListN.{length}
@@ -50,6 +51,7 @@ pub record Totalled (a e t : ℕ) (s : List ℕ) : Type 0 where
   pub inside : e ≤ length s
   pub known : t ≡ total (range a e s)
 
--- w is a check of the packet s, with the total of its range
+-- w is a check of the packet s, with the total of its range and, where there is a second check, that of its field
 pub record Weighs (w : Weighed) (s : List ℕ) : Type 0 where
   pub summed : Totalled (w .check .from) (w .check .to) (w .total) s
+  pub fieldTotalled : w .check .from ≢ w .check .to → Totalled (w .check .field) (w .check .field + 2) (w .in_field) s

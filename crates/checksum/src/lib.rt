@@ -1,9 +1,10 @@
-// The checksum of RFC 1071: sums of bytes, the second check, and the stamp that makes a range pass.
+// The checksum of RFC 1071: sums of bytes, the second check, and the stamp, with what RFC 768 says of a field of zero.
 use base::Judgement;
 use base::Refusal;
 use packet::bit_of;
 use poly::Generator;
 ghost use mathlib.Core.Path.{_≡_};
+ghost use mathlib.Core.Logic.{_≢_};
 ghost use Prim.Native.Nat.{_+_, _*_, _≤_, _<_};
 ghost use lib.ListN.{length, getD};
 ghost use Rattle.base.specs.Lists.{Ascending};
@@ -14,10 +15,12 @@ ghost use Rattle.checksum.specs.Checksum.{
   total,
   range,
   checkOf,
+  fieldOf,
   passes,
   unfitRange,
   unfitField,
   withField,
+  asWritten,
   stamped,
 };
 ghost use Rattle.checksum.specs.Totals.{multiple, share, weight, Changes, Totalled, Weighs};
@@ -29,17 +32,19 @@ ghost use Rattle.checksum.specs.Calls.{
   stampPacket,
 };
 
-// What the second check is taken by: the bytes of the packet from `from` on and before `to`. Where `from` and `to` are equal
-// there is no second check.
+// What the second check is taken by: the bytes of the packet from `from` on and before `to`, and the field, whose first byte
+// is at `field`. Where `from` and `to` are equal there is no second check, and `field` is not looked at.
 pub struct Check {
     pub from: usize,
     pub to: usize,
+    pub field: usize,
 }
 
-// A check, with the plain total of its range in one packet.
+// A check, with the plain total of its range in one packet, and the number that is in its field there.
 pub struct Weighed {
     pub check: Check,
     pub total: u64,
+    pub in_field: u64,
 }
 
 // What a flip adds to a total, and what it takes away.
@@ -54,10 +59,10 @@ pub enum StampAnswer {
 }
 
 // What the second check is taken by, from the numbers given, whether they are accepted or not.
-pub fn check_of(from: usize, to: usize) -> Check
-    ensures { λ r. ⌜ r ≡ checkOf from to ⌝ }
+pub fn check_of(from: usize, to: usize, field: usize) -> Check
+    ensures { λ r. ⌜ r ≡ checkOf from to field ⌝ }
 {
-    Check { from, to }
+    Check { from, to, field }
 }
 
 // The word that begins at byte i, with a zero byte added where the bytes end.
@@ -107,18 +112,36 @@ fn total_of(s: &[u8]) -> u64
     t
 }
 
+// The number in the field. Where there is no second check, the place is not looked at.
+fn number_in_field(check: Check, packet: &[u8]) -> u64
+    requires { ⌜ (check .from ≢ check .to → check .field < length (now packet)) ⌝ }
+    ensures { λ r. ⌜ (check .from ≢ check .to → r ≡ fieldOf (check .field) (now (packet .entry))) ⌝ }
+{
+    let from = check.from;
+    let to = check.to;
+    if to == from {
+        return 0;
+    }
+    word_at(packet, check.field) as u64
+}
+
 // What the check of one packet's candidates needs, taken once.
 pub fn weigh(check: Check, packet: &[u8]) -> Weighed
-    requires { ⌜ Bytes (now packet) × (length (now packet) ≤ 512) × (check .from ≤ check .to) × (check .to ≤ length (now packet)) ⌝ }
+    requires { ⌜ Bytes (now packet) × (length (now packet) ≤ 512) × (check .from ≤ check .to) × (check .to ≤ length (now packet)) × (check .from ≢ check .to → check .field + 2 ≤ check .to) ⌝ }
     ensures { λ r. ⌜ (r .check ≡ check) × Weighs r (now (packet .entry)) ⌝ }
 {
     let from = check.from;
     let to = check.to;
     let total = total_of(&packet[from..to]);
-    Weighed { check, total }
+    let in_field = number_in_field(check, packet);
+    Weighed {
+        check,
+        total,
+        in_field,
+    }
 }
 
-// Whether a range of this plain total passes.
+// Whether a range of this plain total has the sum FFFFh.
 fn decide(t: u64) -> bool
     ensures { λ r. ⌜ r ≡ multiple t ⌝ }
 {
@@ -185,7 +208,8 @@ fn flipped_total(from: usize, to: usize, before: u64, packet: &[u8], pos: &[u16]
     before + plus - minus
 }
 
-// Whether the packet passes the second check once the positions are flipped. Where there is none, nothing is weighed.
+// Whether the packet passes the second check once the positions are flipped. Where there is none, nothing is weighed; else the
+// field's number is told by the bits that fall into it, since it is the total of the field's two bytes.
 pub fn passes_flipped(w: Weighed, packet: &[u8], pos: &[u16]) -> bool
     requires { ⌜ Weighs w (now packet) × Ascending (bits (now packet)) 0 (now pos) ⌝ }
     ensures { λ r. ⌜ r ≡ passes (w .check) (flips (now (packet .entry)) (now (pos .entry))) ⌝ }
@@ -194,6 +218,12 @@ pub fn passes_flipped(w: Weighed, packet: &[u8], pos: &[u16]) -> bool
     let from = check.from;
     let to = check.to;
     if from == to {
+        return true;
+    }
+    let field = check.field;
+    let field_before = w.in_field;
+    let field_after = flipped_total(field, field + 2, field_before, packet, pos);
+    if field_after == 0 {
         return true;
     }
     decide(flipped_total(from, to, w.total, packet, pos))
@@ -224,11 +254,12 @@ pub fn unfit_range(g: Generator, len: usize, check: Check) -> bool
 }
 
 // Condition 10, for any numbers.
-pub fn unfit_field(check: Check, field: usize) -> bool
-    ensures { λ r. ⌜ r ≡ unfitField check field ⌝ }
+pub fn unfit_field(check: Check) -> bool
+    ensures { λ r. ⌜ r ≡ unfitField check ⌝ }
 {
     let from = check.from;
     let to = check.to;
+    let field = check.field;
     if field < from {
         return true;
     }
@@ -250,21 +281,32 @@ fn write_field(packet: &mut [u8], field: usize, value: u16)
     packet[field + 1] = (value % 256) as u8;
 }
 
-// Writes what the sum of the range lacks to FFFFh, the field taken as zero, into the field.
-fn fill_field(packet: &mut [u8], check: Check, field: usize)
-    requires { ⌜ (check .from ≤ field) × (field + 2 ≤ check .to) × (check .to ≤ length (now packet)) ⌝ }
-    ensures { λ _. ⌜ now (packet .exit) ≡ stamped check field (now (packet .entry)) ⌝ }
+// What is written for a number computed: FFFFh for 0.
+fn as_written(value: u16) -> u16
+    ensures { λ r. ⌜ r ≡ asWritten value ⌝ }
+{
+    if value == 0 {
+        return 65535;
+    }
+    value
+}
+
+// Writes what the sum of the range, the field taken as zero, lacks to FFFFh, or FFFFh where it lacks nothing, into the field.
+fn fill_field(packet: &mut [u8], check: Check)
+    requires { ⌜ (check .from ≤ check .field) × (check .field + 2 ≤ check .to) × (check .to ≤ length (now packet)) ⌝ }
+    ensures { λ _. ⌜ now (packet .exit) ≡ stamped check (now (packet .entry)) ⌝ }
 {
     let from = check.from;
     let to = check.to;
+    let field = check.field;
     write_field(packet, field, 0);
     let rest = sum(&packet[from..to]);
-    write_field(packet, field, 65535 - rest);
+    write_field(packet, field, as_written(65535 - rest));
 }
 
 // The conditions of stamp, in their order.
-fn judge_stamp(generator: u64, check: Check, field: usize, len: usize) -> Judgement
-    ensures { λ r. ⌜ judgement r ≡ judged (stampConditions generator (8 * len) check field) ⌝ }
+fn judge_stamp(generator: u64, check: Check, len: usize) -> Judgement
+    ensures { λ r. ⌜ judgement r ≡ judged (stampConditions generator (8 * len) check) ⌝ }
 {
     if poly::unfit_generator(generator) {
         return Judgement::Refused(Refusal::Generator);
@@ -276,22 +318,22 @@ fn judge_stamp(generator: u64, check: Check, field: usize, len: usize) -> Judgem
     if unfit_range(g, len, check) {
         return Judgement::Refused(Refusal::Range);
     }
-    if unfit_field(check, field) {
+    if unfit_field(check) {
         return Judgement::Refused(Refusal::Field);
     }
     Judgement::Passed
 }
 
-// Makes the range of a packet pass, by the field in it.
-pub fn stamp(generator: u64, check: Check, field: usize, packet: &mut [u8]) -> StampAnswer
-    ensures answer { λ r. ⌜ stampAnswer r ≡ stampCall generator check field (now (packet .entry)) ⌝ }
-    ensures bytes { λ r. ⌜ now (packet .exit) ≡ stampPacket generator check field (now (packet .entry)) ⌝ }
+// Gives the range of a packet the sum FFFFh, by the field in it.
+pub fn stamp(generator: u64, check: Check, packet: &mut [u8]) -> StampAnswer
+    ensures answer { λ r. ⌜ stampAnswer r ≡ stampCall generator check (now (packet .entry)) ⌝ }
+    ensures bytes { λ r. ⌜ now (packet .exit) ≡ stampPacket generator check (now (packet .entry)) ⌝ }
 {
-    let judged = judge_stamp(generator, check, field, packet.len());
+    let judged = judge_stamp(generator, check, packet.len());
     match judged {
         Judgement::Refused(r) => StampAnswer::Refused(r),
         Judgement::Passed => {
-            fill_field(packet, check, field);
+            fill_field(packet, check);
             StampAnswer::Stamped
         }
     }

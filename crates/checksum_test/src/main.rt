@@ -66,18 +66,18 @@ fn show_answer(answer: StampAnswer) {
 }
 
 // The answer and the bytes that the packet then holds.
-fn show_stamp(generator: u64, check: Check, field: usize, packet: &mut [u8]) {
-    show_answer(checksum::stamp(generator, check, field, packet));
+fn show_stamp(generator: u64, check: Check, packet: &mut [u8]) {
+    show_answer(checksum::stamp(generator, check, packet));
     testkit::print(b" ");
     show_bytes(packet);
     newline();
 }
 
 // The answer of one stamp, and the packet where it changed.
-fn show_place(generator: u64, check: Check, field: usize) {
+fn show_place(generator: u64, check: Check) {
     let packet = [0xe1u8, 0x23, 0xab, 0xcd, 0x9f, 0x07];
     let mut copy = packet;
-    show_answer(checksum::stamp(generator, check, field, &mut copy));
+    show_answer(checksum::stamp(generator, check, &mut copy));
     if !check::same(&packet, &copy) {
         testkit::print(b"[");
         show_bytes(&copy);
@@ -91,8 +91,7 @@ fn show_places(generator: u64) {
     while k < 1728 {
         show_place(
             generator,
-            check_of(PLACES[k / 144], PLACES[k / 12 % 12]),
-            PLACES[k % 12],
+            check_of(PLACES[k / 144], PLACES[k / 12 % 12], PLACES[k % 12]),
         );
         if k % 12 == 11 {
             newline();
@@ -102,8 +101,8 @@ fn show_places(generator: u64) {
 }
 
 // Stamped and then sealed: the remainder, and the sum of the range.
-fn show_both(generator: u64, check: Check, field: usize, packet: &mut [u8]) {
-    show_answer(checksum::stamp(generator, check, field, packet));
+fn show_both(generator: u64, check: Check, packet: &mut [u8]) {
+    show_answer(checksum::stamp(generator, check, packet));
     packet::seal(generator, 0, 0, packet);
     testkit::print(b" ");
     match packet::remainder(generator, 0, 0, packet) {
@@ -141,28 +140,46 @@ fn show_sums() {
 // Refusals by 1 before 2, and by 2 before 9 and 10.
 fn show_first_refusals() {
     let mut none = [0u8; 0];
-    show_stamp(8, check_of(3, 2), 9, &mut none);
-    show_stamp(53, check_of(0, 2), 0, &mut none);
+    show_stamp(8, check_of(3, 2, 9), &mut none);
+    show_stamp(53, check_of(0, 2, 0), &mut none);
     let mut two = [1u8, 2];
-    show_stamp(7, check_of(0, 2), 0, &mut two);
-    show_stamp(131073, check_of(0, 2), 0, &mut two);
-    show_stamp(0, check_of(0, 2), 0, &mut two);
-    show_stamp(0x11021, check_of(3, 2), 9, &mut two);
-    show_stamp(53, check_of(3, 2), 9, &mut two);
+    show_stamp(7, check_of(0, 2, 0), &mut two);
+    show_stamp(131073, check_of(0, 2, 0), &mut two);
+    show_stamp(0, check_of(0, 2, 0), &mut two);
+    show_stamp(0x11021, check_of(3, 2, 9), &mut two);
+    show_stamp(53, check_of(3, 2, 9), &mut two);
     let mut above = [0u8; 513];
-    show_answer(checksum::stamp(53, check_of(0, 2), 0, &mut above));
+    show_answer(checksum::stamp(53, check_of(0, 2, 0), &mut above));
     newline();
+}
+
+// Ranges whose sum without the field is FFFFh, so that 0 is computed: the field at their start, at their end and between, the last two
+// with an odd number of bytes.
+fn show_computed_zeros() {
+    show_stamp(53, check_of(0, 4, 2), &mut [0xffu8, 0xff, 0x12, 0x34, 0]);
+    show_stamp(53, check_of(0, 4, 0), &mut [0u8, 0, 0xff, 0xff, 0]);
+    show_stamp(
+        53,
+        check_of(1, 7, 3),
+        &mut [9u8, 0x12, 0x34, 0xff, 0xff, 0xed, 0xcb, 0],
+    );
+    show_stamp(53, check_of(0, 5, 2), &mut [0xfeu8, 0xff, 0, 0, 1, 0x80]);
+    show_stamp(
+        53,
+        check_of(1, 6, 1),
+        &mut [0xffu8, 0x12, 0x34, 0, 0xff, 0xff, 0],
+    );
 }
 
 fn show_sealed() {
     let mut most = [0u8; 512];
     testkit::fill(&mut most, 9);
-    show_both(53, check_of(0, 511), 508, &mut most);
-    show_both(0x11021, check_of(1, 510), 507, &mut most);
+    show_both(53, check_of(0, 511, 508), &mut most);
+    show_both(0x11021, check_of(1, 510, 507), &mut most);
     let mut nine = [0u8; 9];
     testkit::fill(&mut nine, 10);
-    show_both(0x11021, check_of(3, 6), 3, &mut nine);
-    show_both(9, check_of(0, 8), 6, &mut nine);
+    show_both(0x11021, check_of(3, 6, 3), &mut nine);
+    show_both(9, check_of(0, 8, 6), &mut nine);
     show_bytes(&nine);
     newline();
 }
@@ -174,5 +191,6 @@ fn main() {
     let ccitt = Generator::ccitt();
     show_places(five.coefficients);
     show_places(ccitt.coefficients);
+    show_computed_zeros();
     show_sealed();
 }

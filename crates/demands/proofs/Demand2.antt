@@ -3,8 +3,9 @@
 -- equal.
 use mathlib.Core.Path.{_≡_, sym, ap, subst, _∙_}
 use mathlib.Core.Bool.{true, false}
+use mathlib.Core.Logic.{_≢_}
 use mathlib.Core.List.{List}
-use Prim.Native.Nat.{ℕ, _+_, _-_, _*_, _^_, _<_, _≤_}
+use Prim.Native.Nat.{ℕ, _+_, _-_, _^_, _<_, _≤_}
 use native.Mathlib.Omega.{arith}
 use borrow.Author.Tests.{eq-eqb, eqb-true}
 use lib.Bits.{bitXor}
@@ -25,13 +26,13 @@ use Rattle.packet.proofs.PacketLaws.{fit-length, fit-values}
 use Rattle.packet.proofs.FlipLaws.{flips-length}
 use Rattle.packet.proofs.RemainderLaws.{remainder-lt, remainder-flips}
 use Rattle.packet.proofs.SealLaws.{sealed-length, sealed-remainder, sealed-same, sealed-bit, sealed-only}
-use Rattle.checksum.specs.Checksum.{total, reduced, range, passes, withField, stamped}
+use Rattle.checksum.specs.Checksum.{total, reduced, range, fieldOf, passes, withField, asWritten, stamped}
 use Rattle.checksum.specs.Calls.{sumCall, stampConditions, stampCall, stampPacket}
 use Rattle.checksum.specs.declared.Check.{Check}
 use Rattle.checksum.proofs.SumLaws.{sum-reduced}
 use Rattle.checksum.proofs.RangeLaws.{sum-decides}
 use Rattle.checksum.proofs.ConditionLaws.{FitRange, fit-range, fit-field}
-use Rattle.checksum.proofs.StampLaws.{stamped-length, stamped-bytes, stamp-passes, stamped-field, stamped-other}
+use Rattle.checksum.proofs.StampLaws.{written-for-zero, ffff-sums-as-zero, stamped-length, stamped-bytes, stamped-field, stamped-not-zero, stamped-other, stamp-passes}
 use Rattle.checksum.proofs.SealedRangeLaws.{sealed-passes}
 use Rattle.tables.specs.Tables.{power, period, stepTable, firstTable}
 use Rattle.tables.specs.Calls.{tablesConditions, tablesCall, stepsAfter, firstsAfter}
@@ -194,42 +195,57 @@ module _ (g : ℕ) (a b : List ℕ) (p : ℕ) (h : tablesCall g a b ≡ accepted
 pub the-sum : (s : List ℕ) → Bytes s → sumCall s ≡ reduced (total s)
 the-sum s b = sum-reduced s b
 
-module _ (g : ℕ) (k : Check) (f : ℕ) (s : List ℕ) (b : Bytes s) (h : stampCall g k f s ≡ accepted tt) where
-  conditions-clear : (i : ℕ) → applied i (stampConditions g (bits s) k f) ≡ false
-  conditions-clear = judge-clear (stampConditions g (bits s) k f) tt tt h
+module _ (g : ℕ) (k : Check) (s : List ℕ) (b : Bytes s) (h : stampCall g k s ≡ accepted tt) where
+  conditions-clear : (i : ℕ) → applied i (stampConditions g (bits s) k) ≡ false
+  conditions-clear = judge-clear (stampConditions g (bits s) k) tt tt h
 
   inside : k .to ≤ length s
   inside = omega (arith, fit-range (degree g) (bits s) k (conditions-clear 9))
 
-  stamp-leaves : stampPacket g k f s ≡ stamped k f s
-  stamp-leaves = judge-accepted (stampConditions g (bits s) k f) tt tt (λ _. s) (stamped k f s) h
+  field-inside : k .field + 1 < length s
+  field-inside = let fits = fit-field k (conditions-clear 10) in omega (arith, inside)
 
-  -- the range of an accepted stamp passes
-  pub stamp-made-to-pass : passes k (stampPacket g k f s) ≡ true
-  stamp-made-to-pass = ap (passes k) stamp-leaves ∙ stamp-passes k f s b inside (conditions-clear 10)
+  stamp-leaves : stampPacket g k s ≡ stamped k s
+  stamp-leaves = judge-accepted (stampConditions g (bits s) k) tt tt (λ _. s) (stamped k s) h
 
-  -- that is by its sum: it is not empty, and its sum is FFFFh
-  pub stamped-sum : (k .from < k .to) × (sumCall (range (k .from) (k .to) (stampPacket g k f s)) ≡ 65535)
+  -- a packet passes the second check after an accepted stamp
+  pub stamp-made-to-pass : passes k (stampPacket g k s) ≡ true
+  stamp-made-to-pass = ap (passes k) stamp-leaves ∙ stamp-passes k s b inside (conditions-clear 10)
+
+  -- the field holds what the sum of the range, with zeros in the field, lacks to FFFFh, written as FFFFh where that is 0; and no other
+  -- byte changed
+  pub stamp-writes : (fieldOf (k .field) (stampPacket g k s) ≡ asWritten (65535 - sumCall (range (k .from) (k .to) (withField (k .field) 0 s))))
+      × ((i : ℕ) → (i ≡ k .field → ⊥) → (i ≡ k .field + 1 → ⊥) → getD (stampPacket g k s) i 0 ≡ getD s i 0)
+  stamp-writes = rw stamp-leaves (stamped-field k s field-inside, stamped-other k s)
+
+  -- so it never says that no checksum was made
+  pub stamp-never-zero : fieldOf (k .field) (stampPacket g k s) ≢ 0
+  stamp-never-zero = rw stamp-leaves (stamped-not-zero k s field-inside)
+
+  -- and it is by the sum that it passes, whatever was computed: the range is not empty, and its sum is FFFFh
+  pub stamped-sum : (k .from < k .to) × (sumCall (range (k .from) (k .to) (stampPacket g k s)) ≡ 65535)
   stamped-sum =
-      let fits = fit-field k f (conditions-clear 10) in
+      let fits = fit-field k (conditions-clear 10) in
       let some : k .from < k .to = omega arith in
-      (some, eqb-true _ _ (sym (sum-decides k (stampPacket g k f s) (λ e. omega arith)) ∙ stamp-made-to-pass))
+      (some, eqb-true _ _ (sym (sum-decides k (stampPacket g k s) (λ e. omega arith) stamp-never-zero) ∙ stamp-made-to-pass))
 
-  -- the field holds what the sum of the range, with zeros in the field, lacks to FFFFh; and no other byte changed
-  pub stamp-writes : (getD (stampPacket g k f s) f 0 * 256 + getD (stampPacket g k f s) (f + 1) 0 ≡ 65535 - sumCall (range (k .from) (k .to) (withField f 0 s)))
-      × ((i : ℕ) → (i ≡ f → ⊥) → (i ≡ f + 1 → ⊥) → getD (stampPacket g k f s) i 0 ≡ getD s i 0)
-  stamp-writes =
-      let fits = fit-field k f (conditions-clear 10) in
-      rw stamp-leaves (stamped-field k f s (omega (arith, inside)), stamped-other k f s)
+  -- to the sum FFFFh is as good as 0: where 0 was computed, the stamped range has the sum that it has with 0 in the field
+  pub ffff-as-good-as-zero : 65535 - sumCall (range (k .from) (k .to) (withField (k .field) 0 s)) ≡ 0
+      → sumCall (range (k .from) (k .to) (stampPacket g k s)) ≡ sumCall (range (k .from) (k .to) (withField (k .field) 0 s))
+  unfolding stamped
+  ffff-as-good-as-zero h =
+      let written : stampPacket g k s ≡ withField (k .field) 65535 s = stamp-leaves ∙ ap (λ (v : ℕ). withField (k .field) v s) (written-for-zero _ h) in
+      ap (λ (l : List ℕ). sumCall (range (k .from) (k .to) l)) written
+      ∙ ffff-sums-as-zero k s b inside (fit-field k (conditions-clear 10)) (λ e. omega (arith, e, h))
 
   -- stamped and then sealed, by accepted initial and final values, a packet passes both checks
   pub stamp-and-seal : (c : Crc) → generatorOf g ≡ c .generator → unfitValues (c .generator .degree) (c .init) (c .xorout) ≡ false
-      → passesBoth c k (sealPacket c (stampPacket g k f s)) ≡ true
+      → passesBoth c k (sealPacket c (stampPacket g k s)) ≡ true
   unfolding passesBoth
   stamp-and-seal c made values =
-      let t = stamped k f s in
-      let bt = stamped-bytes k f s b in
-      let same = stamped-length k f s in
+      let t = stamped k s in
+      let bt = stamped-bytes k s b in
+      let same = stamped-length k s in
       let fit : Fit (c .generator) = subst Fit made (fit-accepted g (conditions-clear 1)) in
       let d = fit .divisor in
       let range : FitRange (c .generator .degree) (bits t) k =
@@ -238,10 +254,10 @@ module _ (g : ℕ) (k : Check) (f : ℕ) (s : List ℕ) (b : Bytes s) (h : stamp
       let generators : unfit (c .generator .coefficients) ≡ false = subst (λ (w : Generator). unfit (w .coefficients) ≡ false) made (conditions-clear 1) in
       let lengths : unfitLength (c .generator .degree) (bits t) ≡ false =
       rw same (subst (λ (w : Generator). unfitLength (w .degree) (bits s) ≡ false) made (conditions-clear 2)) in
-      let whole : sealPacket c (stampPacket g k f s) ≡ sealed c t = ap (sealPacket c) stamp-leaves ∙ simp (generators, lengths, values) in
+      let whole : sealPacket c (stampPacket g k s) ≡ sealed c t = ap (sealPacket c) stamp-leaves ∙ simp (generators, lengths, values) in
       rw whole
       (simp (
         eq-eqb _ _ (sealed-remainder c d t bt long),
-        sealed-passes c k t d bt range,
-        stamp-passes k f s b inside (conditions-clear 10),
+        sealed-passes c k t d bt range (λ _. fit-field k (conditions-clear 10) .within),
+        stamp-passes k s b inside (conditions-clear 10),
       ))

@@ -42,7 +42,7 @@ use Rattle.demands.specs.Demand3.{Supposed, repairWith, Roomy}
 pub fit-of : {c : Crc} {k : Check} {limit : ℕ} {s : List ℕ} → Supposed c k limit s → Fit (c .generator)
 fit-of {c} p = subst Fit (p .numbered) (fit-accepted (c .generator .coefficients) (p .fitGenerator))
 
--- an accepted packet, generator, initial and final value, range and limit
+-- an accepted packet, generator, initial and final value, range, field and limit
 module _ (c : Crc) (k : Check) (limit : ℕ) (s : List ℕ) (supposed : Supposed c k limit s) where
   -- 3.1: a set is in the list, once, just if it has at most N positions, below L, and the packet's remainder as syndrome; and
   -- the list is in order. And 3.6: `before` is a function of the positions of two sets and of nothing else.
@@ -117,6 +117,7 @@ module _ (c : Crc) (k : Check) (limit : ℕ) (s : List ℕ) (supposed : Supposed
         tables-right,
         eq-eqb _ _ h,
         supposed .fitRange,
+        supposed .fitCheckField,
       )
 
   -- `leading` has the listed sets that lead to a passing packet, each once, so its length is their number; and more than

@@ -21,67 +21,69 @@ use Rattle.tables.specs.Tables.{stepTable, firstTable}
 use Rattle.patterns.specs.Listing.{unfitLimit}
 use Rattle.repair.specs.Verdicts.{passesBoth, intact}
 use Rattle.repair.specs.Calls.{repairCall}
+use Rattle.repair.proofs.ConditionLaws.{stamp-field-fits}
 use Rattle.repair.proofs.VerdictLaws.{verdict-intact}
 use Rattle.demands.specs.Demand3.{Supposed, repairWith}
 use Rattle.demands.proofs.Demand2.{stamp-and-seal}
 use Rattle.demands.proofs.Demand3.{repair-accepted}
 
-module _ (g init xorout seed : ℕ) (k : Check) (f : ℕ) where
+module _ (g init xorout seed : ℕ) (k : Check) where
   abbrev crc : Crc
   crc = crcOf g init xorout
 
   -- its conditions are stamp's, with 11 put in behind 2
   pub conditions-of-stamp : (l : ℕ)
-      → makeConditions crc l k f ≡ take 2 (stampConditions g l k f) ++ when 11 (unfitValues (degree g) init xorout) ∷ drop 2 (stampConditions g l k f)
+      → makeConditions crc l k ≡ take 2 (stampConditions g l k) ++ when 11 (unfitValues (degree g) init xorout) ∷ drop 2 (stampConditions g l k)
   conditions-of-stamp l = refl
 
   -- what an accepted call makes
-  module _ (s : List ℕ) (x : ℕ) (h : makeCall crc seed k f s ≡ accepted x) where
-    clear : (m : ℕ) → applied m (makeConditions crc (bits s) k f) ≡ false
-    clear = judge-clear (makeConditions crc (bits s) k f) (stateAfter (length s) seed) x h
+  module _ (s : List ℕ) (x : ℕ) (h : makeCall crc seed k s ≡ accepted x) where
+    clear : (m : ℕ) → applied m (makeConditions crc (bits s) k) ≡ false
+    clear = judge-clear (makeConditions crc (bits s) k) (stateAfter (length s) seed) x h
 
-    leaves : makePacket crc seed k f s ≡ made crc seed k f (length s)
-    leaves = judge-accepted (makeConditions crc (bits s) k f) (stateAfter (length s) seed) x (λ _. s) (made crc seed k f (length s)) h
+    leaves : makePacket crc seed k s ≡ made crc seed k (length s)
+    leaves = judge-accepted (makeConditions crc (bits s) k) (stateAfter (length s) seed) x (λ _. s) (made crc seed k (length s)) h
 
     -- the same packet and the same state come of any bytes of that length
-    pub made-again : (t : List ℕ) → length t ≡ length s → (makeCall crc seed k f t ≡ accepted x) × (makePacket crc seed k f t ≡ makePacket crc seed k f s)
+    pub made-again : (t : List ℕ) → length t ≡ length s → (makeCall crc seed k t ≡ accepted x) × (makePacket crc seed k t ≡ makePacket crc seed k s)
     made-again t same =
-        let again : makeCall crc seed k f t ≡ accepted x = rw same h in (
+        let again : makeCall crc seed k t ≡ accepted x = rw same h in (
           again,
-          judge-accepted (makeConditions crc (bits t) k f) (stateAfter (length t) seed) x (λ _. t) (made crc seed k f (length t)) again
-              ∙ ap (made crc seed k f) same
+          judge-accepted (makeConditions crc (bits t) k) (stateAfter (length t) seed) x (λ _. t) (made crc seed k (length t)) again
+              ∙ ap (made crc seed k) same
               ∙ sym leaves,
         )
 
     -- the packet is what stamp, and then seal, leave of the bytes yielded
-    pub made-of-yielded : makePacket crc seed k f s ≡ sealPacket crc (stampPacket g k f (yielded (length s) seed))
-    made-of-yielded = leaves ∙ sym (made-by-calls g init xorout seed k f (length s) clear)
+    pub made-of-yielded : makePacket crc seed k s ≡ sealPacket crc (stampPacket g k (yielded (length s) seed))
+    made-of-yielded = leaves ∙ sym (made-by-calls g init xorout seed k (length s) clear)
 
     -- it passes both checks
-    pub made-passes : passesBoth crc k (makePacket crc seed k f s) ≡ true
+    pub made-passes : passesBoth crc k (makePacket crc seed k s) ≡ true
     made-passes =
         ap (passesBoth crc k) made-of-yielded
-        ∙ stamp-and-seal g k f (yielded (length s) seed) (yielded-bytes (length s) seed) (stamp-accepts g init xorout seed k f (length s) clear) crc refl (clear 11)
+        ∙ stamp-and-seal g k (yielded (length s) seed) (yielded-bytes (length s) seed) (stamp-accepts g init xorout seed k (length s) clear) crc refl (clear 11)
 
-    supposed : (limit : ℕ) → unfitLimit limit ≡ false → Supposed crc k limit (makePacket crc seed k f s)
+    supposed : (limit : ℕ) → unfitLimit limit ≡ false → Supposed crc k limit (makePacket crc seed k s)
     supposed limit fit =
-        let same = made-length g init xorout seed k f (length s) clear in
+        let same = made-length g init xorout seed k (length s) clear in
         rw leaves
         (record {
-          bytes = made-bytes g init xorout seed k f (length s) clear;
+          bytes = made-bytes g init xorout seed k (length s) clear;
           numbered = refl;
           fitGenerator = clear 1;
           fitLength = rw same (clear 2);
           fitValues = clear 11;
           fitLimit = fit;
           fitRange = rw same (clear 9);
+          fitCheckField = stamp-field-fits k (clear 10);
         })
 
-    -- so a repair of it by the same CRC and range, at every limit, with right tables and an output of its length, says Intact
+    -- so a repair of it by the same CRC, range and field, at every limit, with right tables and an output of its length, says Intact
     pub made-intact : (limit : ℕ) → unfitLimit limit ≡ false → (out : List ℕ) → length out ≡ length s
-        → repairCall (repairWith crc k limit (makePacket crc seed k f s) (record { steps = stepTable (degree g) g; firsts = firstTable (degree g) g; output = out }))
+        → repairCall (repairWith crc k limit (makePacket crc seed k s) (record { steps = stepTable (degree g) g; firsts = firstTable (degree g) g; output = out }))
         ≡ accepted intact
     made-intact limit fit out room =
-        let t = makePacket crc seed k f s in
-        let same : length out ≡ length t = room ∙ sym (ap length leaves ∙ made-length g init xorout seed k f (length s) clear) in
+        let t = makePacket crc seed k s in
+        let same : length out ≡ length t = room ∙ sym (ap length leaves ∙ made-length g init xorout seed k (length s) clear) in
         repair-accepted crc k limit t (supposed limit fit) out same ∙ ap accepted (verdict-intact crc k limit t .1 made-passes)

@@ -52,7 +52,7 @@ flips-parity c numbered even s b r h ps within =
       omega (arith, parity-xor r added, count-parity n g (fit .divisor) even ps),
     )
 
--- an accepted packet, initial and final value, range and limit
+-- an accepted packet, initial and final value, range, field and limit
 module _ (c : Crc) (k : Check) (limit : ℕ) (s : List ℕ) (supposed : Supposed c k limit s) (even : ones (c .generator .coefficients) % 2 ≡ 0) where
   -- a listed pattern's number of positions and the remainder's number of ones are both even or both odd
   pub the-counts : (ps : List ℕ) → In ps (packetList c limit s) → length ps % 2 ≡ ones (remainder c s) % 2

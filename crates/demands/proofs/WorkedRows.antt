@@ -4,7 +4,7 @@ use Rattle.poly.specs.Polynomial.{down, downIn, degree, degreeIn, reduce, rem, 
 use Rattle.poly.specs.Generators.{unfit}
 use Rattle.packet.specs.Packet.{polynomial, polynomialAfter, bytes, unfitLength, unfitValues, asRead, remainder, sealed, flip, flips}
 use Rattle.tables.specs.Tables.{power, least, period, step, first}
-use Rattle.checksum.specs.Checksum.{words, folded, sumFrom, sumOf, range, passes, unfitRange, unfitField, withField, stamped}
+use Rattle.checksum.specs.Checksum.{words, folded, sumFrom, sumOf, range, fieldOf, passes, unfitRange, unfitField, withField, asWritten, stamped}
 use Rattle.maker.specs.Stream.{nextState, byteOf, yielded, stateAfter}
 use Rattle.maker.specs.Calls.{made}
 use Rattle.patterns.specs.Order.{lower, before}
@@ -13,7 +13,7 @@ use Rattle.repair.specs.Verdicts.{passesBoth, candidates}
 use Rattle.demands.specs.Worked.{Worked}
 
 pub worked-rows : Worked
-unfolding down downIn degree degreeIn reduce rem powers unfit polynomial polynomialAfter bytes unfitLength unfitValues asRead remainder sealed flip flips power least period step first words folded sumFrom sumOf range passes unfitRange unfitField withField stamped nextState byteOf yielded stateAfter made lower before syndrome choose upTo sift listing follows passesBoth candidates
+unfolding down downIn degree degreeIn reduce rem powers unfit polynomial polynomialAfter bytes unfitLength unfitValues asRead remainder sealed flip flips power least period step first words folded sumFrom sumOf range fieldOf passes unfitRange unfitField withField asWritten stamped nextState byteOf yielded stateAfter made lower before syndrome choose upTo sift listing follows passesBoth candidates
 worked-rows =
     record {
       row1 = refl;
@@ -37,4 +37,6 @@ worked-rows =
       row19 = (λ limit. refl, refl, refl, refl);
       row20 = (refl, refl, refl);
       row21 = (refl, refl);
+      row22 = (λ limit. refl, refl, refl);
+      row23 = (refl, refl);
     }

@@ -13,10 +13,11 @@ use Rattle.tables.specs.Tables.{stepTable, firstTable}
 use Rattle.patterns.specs.Listing.{unfitLimit}
 use Rattle.patterns.specs.Records.{longestRecord}
 use Rattle.pages.specs.Sequences.{Lending}
-use Rattle.repair.specs.Calls.{Repair, repairRequest}
+use Rattle.repair.specs.Calls.{Repair, repairRequest, unfitCheckField}
 use Rattle.demands.specs.Demand2.{Numbered}
 
--- an accepted generator, packet s of bytes, initial and final value, limit and range: none of conditions 1, 2, 11, 3 and 9 applies
+-- an accepted generator, packet s of bytes, initial and final value, limit, range and field: none of conditions 1, 2, 11, 3, 9 and 10
+-- applies
 pub record Supposed (c : Crc) (k : Check) (limit : ℕ) (s : List ℕ) : Type 0 where
   pub bytes : Bytes s
   pub numbered : Numbered c
@@ -25,8 +26,9 @@ pub record Supposed (c : Crc) (k : Check) (limit : ℕ) (s : List ℕ) : Type 0 
   pub fitValues : unfitValues (c .generator .degree) (c .init) (c .xorout) ≡ false
   pub fitLimit : unfitLimit limit ≡ false
   pub fitRange : unfitRange (c .generator .degree) (bits s) k ≡ false
+  pub fitCheckField : unfitCheckField k ≡ false
 
--- a repair with that CRC, range, limit and packet: tables and output are lent anew at each call
+-- a repair with that CRC, range, field, limit and packet: tables and output are lent anew at each call
 abbrev pub repairWith : Crc → Check → ℕ → List ℕ → Lending → Repair
 repairWith c k limit s lent = repairRequest c k limit (lent .steps) (lent .firsts) s (lent .output)
 

@@ -1,4 +1,5 @@
 pub mod Demand2
 pub mod Demand3
 pub mod Plain
+pub mod CrcAlone
 pub mod Worked

@@ -10,7 +10,7 @@ use Rattle.poly.specs.declared.Generator.{Generator}
 use Rattle.packet.specs.Packet.{crcOf, remainder}
 use Rattle.tables.specs.Tables.{period, step, first}
 use Rattle.checksum.specs.Checksum.{sumOf, checkOf}
-use Rattle.checksum.specs.Calls.{stampCall}
+use Rattle.checksum.specs.Calls.{stampCall, stampPacket}
 use Rattle.checksum.specs.declared.Check.{Check}
 use Rattle.maker.specs.Stream.{yielded, stateAfter}
 use Rattle.maker.specs.Calls.{makeCall, makePacket}
@@ -23,13 +23,13 @@ use Rattle.repair.specs.Verdicts.{packetList, intact, repaired, several, nothin
 abbrev pub listOf : Generator → ℕ → ℕ → ℕ → List (List ℕ)
 listOf g l limit s = listing (g .degree) (g .coefficients) l limit s
 
--- the range [0, 2)
+-- the range [0, 2), field 0
 abbrev pub firstTwo : Check
-firstTwo = checkOf 0 2
+firstTwo = checkOf 0 2 0
 
 -- no second check: a range that begins and ends at one place
 abbrev pub noCheck : Check
-noCheck = checkOf 0 0
+noCheck = checkOf 0 0 0
 
 -- the digits 1 to 9 as text, and two zeros
 abbrev pub checked : List ℕ
@@ -79,17 +79,24 @@ pub record Worked : Type 0 where
   -- the stream from seed 0: its first four bytes, and the state after them: 3C 47 D1 AA; AAF95334h
   pub row17 : (yielded 4 0 ≡ 0x3C ∷ 0x47 ∷ 0xD1 ∷ 0xAA ∷ []) × (stateAfter 4 0 ≡ 0xAAF95334)
   -- ccitt, eight bytes made from seed 0, range [0,6), field 4: 3C 47 D1 AA F2 0D 52 37, state A3D95FA8h; with I FFFFh: .. 5C 27
-  pub row18 : (makePacket (crcOf 0x11021 0 0) 0 (checkOf 0 6) 4 blank ≡ 0x3C ∷ 0x47 ∷ 0xD1 ∷ 0xAA ∷ 0xF2 ∷ 0x0D ∷ 0x52 ∷ 0x37 ∷ [])
-      × (makeCall (crcOf 0x11021 0 0) 0 (checkOf 0 6) 4 blank ≡ accepted 0xA3D95FA8)
-      × (makePacket (crcOf 0x11021 0xFFFF 0) 0 (checkOf 0 6) 4 blank ≡ 0x3C ∷ 0x47 ∷ 0xD1 ∷ 0xAA ∷ 0xF2 ∷ 0x0D ∷ 0x5C ∷ 0x27 ∷ [])
+  pub row18 : (makePacket (crcOf 0x11021 0 0) 0 (checkOf 0 6 4) blank ≡ 0x3C ∷ 0x47 ∷ 0xD1 ∷ 0xAA ∷ 0xF2 ∷ 0x0D ∷ 0x52 ∷ 0x37 ∷ [])
+      × (makeCall (crcOf 0x11021 0 0) 0 (checkOf 0 6 4) blank ≡ accepted 0xA3D95FA8)
+      × (makePacket (crcOf 0x11021 0xFFFF 0) 0 (checkOf 0 6 4) blank ≡ 0x3C ∷ 0x47 ∷ 0xD1 ∷ 0xAA ∷ 0xF2 ∷ 0x0D ∷ 0x5C ∷ 0x27 ∷ [])
   -- five, no second check, N 1: 7F FE 05; 7F FF 05; FF FD 05; FF FF 06: Intact; Several, 2, {8}; Repaired {9}; None
   pub row19 : ((limit : ℕ) → verdict (crcOf 53 0 0) noCheck limit (0x7F ∷ 0xFE ∷ 0x05 ∷ []) ≡ intact)
       × (verdict (crcOf 53 0 0) noCheck 1 (0x7F ∷ 0xFF ∷ 0x05 ∷ []) ≡ several 2 (8 ∷ []))
       × (verdict (crcOf 53 0 0) noCheck 1 (0xFF ∷ 0xFD ∷ 0x05 ∷ []) ≡ repaired (9 ∷ []))
       × (verdict (crcOf 53 0 0) noCheck 1 (0xFF ∷ 0xFF ∷ 0x06 ∷ []) ≡ nothing)
   -- five, FF FF 05 stamped with [2,2), field 2; [3,3), field 3; [1,0), field 0: refused by 10; 9; 9
-  pub row20 : (stampCall 53 (checkOf 2 2) 2 (0xFF ∷ 0xFF ∷ 0x05 ∷ []) ≡ refused 10) × (stampCall 53 (checkOf 3 3) 3 (0xFF ∷ 0xFF ∷ 0x05 ∷ []) ≡ refused 9)
-      × (stampCall 53 (checkOf 1 0) 0 (0xFF ∷ 0xFF ∷ 0x05 ∷ []) ≡ refused 9)
+  pub row20 : (stampCall 53 (checkOf 2 2 2) (0xFF ∷ 0xFF ∷ 0x05 ∷ []) ≡ refused 10) × (stampCall 53 (checkOf 3 3 3) (0xFF ∷ 0xFF ∷ 0x05 ∷ []) ≡ refused 9)
+      × (stampCall 53 (checkOf 1 0 0) (0xFF ∷ 0xFF ∷ 0x05 ∷ []) ≡ refused 9)
   -- 9, range [0,2), 7F FF 02, N 2: lists {0,2} first; Several, 3, {0,23}
   pub row21 : (take 1 (packetList (crcOf 9 0 0) 2 (0x7F ∷ 0xFF ∷ 0x02 ∷ [])) ≡ (0 ∷ 2 ∷ []) ∷ [])
       × (verdict (crcOf 9 0 0) firstTwo 2 (0x7F ∷ 0xFF ∷ 0x02 ∷ []) ≡ several 3 (0 ∷ 23 ∷ []))
+  -- five, range [0,2), field 0: 00 00 00; 80 00 00, N 1: Intact; lists {8},{23}; Repaired {23}
+  pub row22 : ((limit : ℕ) → verdict (crcOf 53 0 0) firstTwo limit (0x00 ∷ 0x00 ∷ 0x00 ∷ []) ≡ intact)
+      × (packetList (crcOf 53 0 0) 1 (0x80 ∷ 0x00 ∷ 0x00 ∷ []) ≡ (8 ∷ []) ∷ (23 ∷ []) ∷ [])
+      × (verdict (crcOf 53 0 0) firstTwo 1 (0x80 ∷ 0x00 ∷ 0x00 ∷ []) ≡ repaired (23 ∷ []))
+  -- five, FF FF 12 34 00 stamped with [0,4), field 2; field 0: FF FF FF FF 00; ED CB 12 34 00
+  pub row23 : (stampPacket 53 (checkOf 0 4 2) (0xFF ∷ 0xFF ∷ 0x12 ∷ 0x34 ∷ 0x00 ∷ []) ≡ 0xFF ∷ 0xFF ∷ 0xFF ∷ 0xFF ∷ 0x00 ∷ [])
+      × (stampPacket 53 (checkOf 0 4 0) (0xFF ∷ 0xFF ∷ 0x12 ∷ 0x34 ∷ 0x00 ∷ []) ≡ 0xED ∷ 0xCB ∷ 0x12 ∷ 0x34 ∷ 0x00 ∷ [])

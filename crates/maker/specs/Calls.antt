@@ -14,17 +14,17 @@ use Rattle.maker.specs.declared.MakeAnswer.{MakeAnswer}
 use Rattle.maker.specs.declared.MakeAnswer.the-variants.{Made, Refused}
 
 -- the packet of so many bytes that is made from a seed: bytes of the stream, stamped and then sealed
-unfoldable pub made : Crc → ℕ → Check → ℕ → ℕ → List ℕ
-made c seed k f count = sealed c (stamped k f (yielded count seed))
+unfoldable pub made : Crc → ℕ → Check → ℕ → List ℕ
+made c seed k count = sealed c (stamped k (yielded count seed))
 
 -- the maker is refused by 1, 2, 11, 9 and 10
-abbrev pub makeConditions : Crc → ℕ → Check → ℕ → List Condition
-makeConditions c l k f =
+abbrev pub makeConditions : Crc → ℕ → Check → List Condition
+makeConditions c l k =
     when 1 (unfit (c .generator .coefficients))
     ∷ when 2 (unfitLength (c .generator .degree) l)
     ∷ when 11 (unfitValues (c .generator .degree) (c .init) (c .xorout))
     ∷ when 9 (unfitRange (c .generator .degree) l k)
-    ∷ when 10 (unfitField k f)
+    ∷ when 10 (unfitField k)
     ∷ []
 
 -- an answer that is no refusal holds the final state
@@ -32,9 +32,9 @@ abbrev pub makeAnswer : MakeAnswer → Outcome ℕ
 makeAnswer (Made x) = accepted x
 makeAnswer (Refused r) = refused (number r)
 
-abbrev pub makeCall : Crc → ℕ → Check → ℕ → List ℕ → Outcome ℕ
-makeCall c seed k f s = judge (makeConditions c (bits s) k f) refused (accepted (stateAfter (length s) seed))
+abbrev pub makeCall : Crc → ℕ → Check → List ℕ → Outcome ℕ
+makeCall c seed k s = judge (makeConditions c (bits s) k) refused (accepted (stateAfter (length s) seed))
 
 -- the packet after the call
-abbrev pub makePacket : Crc → ℕ → Check → ℕ → List ℕ → List ℕ
-makePacket c seed k f s = judge (makeConditions c (bits s) k f) (λ _. s) (made c seed k f (length s))
+abbrev pub makePacket : Crc → ℕ → Check → List ℕ → List ℕ
+makePacket c seed k s = judge (makeConditions c (bits s) k) (λ _. s) (made c seed k (length s))

@@ -59,15 +59,8 @@ pub fn fill(packet: &mut [u8], seed: u32) -> u32
 }
 
 // The conditions of the maker, in their order.
-fn judge_make(
-    generator: u64,
-    init: u64,
-    xorout: u64,
-    check: Check,
-    field: usize,
-    len: usize,
-) -> Judgement
-    ensures { λ r. ⌜ judgement r ≡ judged (makeConditions (crcOf generator init xorout) (8 * len) check field) ⌝ }
+fn judge_make(generator: u64, init: u64, xorout: u64, check: Check, len: usize) -> Judgement
+    ensures { λ r. ⌜ judgement r ≡ judged (makeConditions (crcOf generator init xorout) (8 * len) check) ⌝ }
 {
     let judged = packet::judge_packet(generator, init, xorout, len);
     if let Judgement::Refused(r) = judged {
@@ -77,7 +70,7 @@ fn judge_make(
     if checksum::unfit_range(g, len, check) {
         return Judgement::Refused(Refusal::Range);
     }
-    if checksum::unfit_field(check, field) {
+    if checksum::unfit_field(check) {
         return Judgement::Refused(Refusal::Field);
     }
     Judgement::Passed
@@ -90,19 +83,18 @@ pub fn make(
     xorout: u64,
     seed: u32,
     check: Check,
-    field: usize,
     packet: &mut [u8],
 ) -> MakeAnswer
-    ensures answer { λ r. ⌜ makeAnswer r ≡ makeCall (crcOf generator init xorout) seed check field (now (packet .entry)) ⌝ }
-    ensures bytes { λ _. ⌜ now (packet .exit) ≡ makePacket (crcOf generator init xorout) seed check field (now (packet .entry)) ⌝ }
+    ensures answer { λ r. ⌜ makeAnswer r ≡ makeCall (crcOf generator init xorout) seed check (now (packet .entry)) ⌝ }
+    ensures bytes { λ _. ⌜ now (packet .exit) ≡ makePacket (crcOf generator init xorout) seed check (now (packet .entry)) ⌝ }
 {
-    let judged = judge_make(generator, init, xorout, check, field, packet.len());
+    let judged = judge_make(generator, init, xorout, check, packet.len());
     match judged {
         Judgement::Refused(r) => MakeAnswer::Refused(r),
         Judgement::Passed => {
             let state = fill(packet, seed);
             // neither of these is refused: their conditions were judged above
-            checksum::stamp(generator, check, field, packet);
+            checksum::stamp(generator, check, packet);
             packet::seal(generator, init, xorout, packet);
             MakeAnswer::Made(state)
         }

@@ -2,7 +2,8 @@
 use maker::MakeAnswer;
 ghost use Prim.Native.Nat.{_<_};
 
-const SEEDS: [u32; 7] = [0, 1, 255, 65536, 2147483648, 4294967294, 4294967295];
+// From 65871 eight bytes come for which a checksum of zero is computed.
+const SEEDS: [u32; 7] = [0, 1, 65871, 65536, 2147483648, 4294967294, 4294967295];
 
 // What packets are made by: numbers that fit, and numbers that do not.
 const GENERATORS: [u64; 5] = [9, 53, 69665, 131071, 131073];
@@ -62,8 +63,7 @@ fn make(k: usize, before: u64, packet: &mut [u8]) -> u64
         VALUES[k / 40 % 4],
         VALUES[k / 10 % 4],
         SEEDS[k % 7],
-        checksum::check_of(STARTS[k % 10], ENDS[k % 10]),
-        FIELDS[k % 10],
+        checksum::check_of(STARTS[k % 10], ENDS[k % 10], FIELDS[k % 10]),
         packet,
     );
     show_answer(answer);

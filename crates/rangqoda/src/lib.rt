@@ -111,11 +111,11 @@ pub extern "C" fn rangqoda_stamp(
     field: usize,
     packet: &mut [u8],
 ) -> u32
-    ensures answer { λ r. ⌜ r ≡ code (stampCall generator (checkOf start end) field (now (packet .entry))) ⌝ }
-    ensures packet { λ _. ⌜ now (packet .exit) ≡ stampPacket generator (checkOf start end) field (now (packet .entry)) ⌝ }
+    ensures answer { λ r. ⌜ r ≡ code (stampCall generator (checkOf start end field) (now (packet .entry))) ⌝ }
+    ensures packet { λ _. ⌜ now (packet .exit) ≡ stampPacket generator (checkOf start end field) (now (packet .entry)) ⌝ }
 {
-    let check = checksum::check_of(start, end);
-    let answer = checksum::stamp(generator, check, field, packet);
+    let check = checksum::check_of(start, end, field);
+    let answer = checksum::stamp(generator, check, packet);
     match answer {
         StampAnswer::Refused(r) => base::number_of(r),
         StampAnswer::Stamped => 0,
@@ -134,12 +134,12 @@ pub extern "C" fn rangqoda_make(
     packet: &mut [u8],
     state: &mut u32,
 ) -> u32
-    ensures answer { λ r. ⌜ r ≡ code (makeCall (crcOf generator init xorout) seed (checkOf start end) field (now (packet .entry))) ⌝ }
-    ensures packet { λ _. ⌜ now (packet .exit) ≡ makePacket (crcOf generator init xorout) seed (checkOf start end) field (now (packet .entry)) ⌝ }
-    ensures state { λ _. ⌜ now (state .exit) ≡ changed (now (state .entry)) (λ v. v) (makeCall (crcOf generator init xorout) seed (checkOf start end) field (now (packet .entry))) ⌝ }
+    ensures answer { λ r. ⌜ r ≡ code (makeCall (crcOf generator init xorout) seed (checkOf start end field) (now (packet .entry))) ⌝ }
+    ensures packet { λ _. ⌜ now (packet .exit) ≡ makePacket (crcOf generator init xorout) seed (checkOf start end field) (now (packet .entry)) ⌝ }
+    ensures state { λ _. ⌜ now (state .exit) ≡ changed (now (state .entry)) (λ v. v) (makeCall (crcOf generator init xorout) seed (checkOf start end field) (now (packet .entry))) ⌝ }
 {
-    let check = checksum::check_of(start, end);
-    let answer = maker::make(generator, init, xorout, seed, check, field, packet);
+    let check = checksum::check_of(start, end, field);
+    let answer = maker::make(generator, init, xorout, seed, check, packet);
     match answer {
         MakeAnswer::Refused(r) => base::number_of(r),
         MakeAnswer::Made(v) => {
@@ -377,6 +377,7 @@ pub extern "C" fn rangqoda_repair(
     xorout: u64,
     start: usize,
     end: usize,
+    field: usize,
     limit: usize,
     step: &[u16],
     first: &[u16],
@@ -384,12 +385,12 @@ pub extern "C" fn rangqoda_repair(
     output: &mut [u8],
     verdict: &mut [u8],
 ) -> u32
-    ensures answer { λ r. ⌜ r ≡ code (repairCall (handed (crcOf generator init xorout) (checkOf start end) limit (now (step .entry)) (now (first .entry)) (now (packet .entry)) (now (output .entry)) (now (verdict .entry)))) ⌝ }
-    ensures verdict { λ _. ⌜ now (verdict .exit) ≡ verdictAfter (now (verdict .entry)) (repairCall (handed (crcOf generator init xorout) (checkOf start end) limit (now (step .entry)) (now (first .entry)) (now (packet .entry)) (now (output .entry)) (now (verdict .entry)))) ⌝ }
-    ensures output { λ _. ⌜ now (output .exit) ≡ outputAfter (handed (crcOf generator init xorout) (checkOf start end) limit (now (step .entry)) (now (first .entry)) (now (packet .entry)) (now (output .entry)) (now (verdict .entry))) (now (output .entry)) (now (verdict .entry)) ⌝ }
+    ensures answer { λ r. ⌜ r ≡ code (repairCall (handed (crcOf generator init xorout) (checkOf start end field) limit (now (step .entry)) (now (first .entry)) (now (packet .entry)) (now (output .entry)) (now (verdict .entry)))) ⌝ }
+    ensures verdict { λ _. ⌜ now (verdict .exit) ≡ verdictAfter (now (verdict .entry)) (repairCall (handed (crcOf generator init xorout) (checkOf start end field) limit (now (step .entry)) (now (first .entry)) (now (packet .entry)) (now (output .entry)) (now (verdict .entry)))) ⌝ }
+    ensures output { λ _. ⌜ now (output .exit) ≡ outputAfter (handed (crcOf generator init xorout) (checkOf start end field) limit (now (step .entry)) (now (first .entry)) (now (packet .entry)) (now (output .entry)) (now (verdict .entry))) (now (output .entry)) (now (verdict .entry)) ⌝ }
 {
     let room = room_for(verdict.len(), output.len());
-    let check = checksum::check_of(start, end);
+    let check = checksum::check_of(start, end, field);
     let answer = repair::repair(
         generator,
         init,

@@ -4,42 +4,32 @@
 -- Where the received packet itself passes both checks the verdict is intact, whatever was sent: that is neither none nor
 -- a repair, and the output then stays as it was.
 use mathlib.Core.Path.{_≡_, sym, ap, _∙_}
-use mathlib.Core.Bool.{Bool, true, _&&_, true≢false}
+use mathlib.Core.Bool.{true}
 use mathlib.Core.List.{List}
 use Prim.Native.Nat.{ℕ, _≤_}
-use borrow.Author.Tests.{eqb-true}
 use lib.Bits.{bitXor}
-use lib.Dec.{eqb}
 use lib.ListN.{length}
 use Rattle.base.specs.Lists.{Ascending}
-use Rattle.base.proofs.Cases.{by-test}
 use Rattle.base.proofs.XorLaws.{xor-zero-equal}
 use Rattle.poly.specs.Fit.{Fit}
 use Rattle.packet.specs.Packet.{Bytes, bits, remainder, flips, difference}
 use Rattle.packet.specs.declared.Crc.{Crc}
 use Rattle.packet.proofs.FlipLaws.{flips-length}
 use Rattle.packet.proofs.DifferenceLaws.{difference-ascending, flips-difference, flips-twice}
-use Rattle.checksum.specs.Checksum.{passes}
 use Rattle.checksum.specs.declared.Check.{Check}
 use Rattle.patterns.specs.Listing.{syndrome}
 use Rattle.patterns.proofs.ListingLaws.{listed-iff}
 use Rattle.repair.specs.Verdicts.{passesBoth, repaired, nothing, verdict, outputFor, Leads}
-use Rattle.repair.proofs.VerdictLaws.{remainder-syndrome, verdict-nothing, verdict-repaired, output-repaired}
+use Rattle.repair.proofs.VerdictLaws.{both-passed, remainder-syndrome, verdict-nothing, verdict-repaired, output-repaired}
 
 -- ---- the packet sent ----
 
 module _ (c : Crc) (k : Check) (limit : ℕ) (s : List ℕ) (fit : Fit (c .generator)) (bs : Bytes s) where
-  passes-remainder : (t : List ℕ) → passesBoth c k t ≡ true → remainder c t ≡ 0
-  unfolding passesBoth
-  passes-remainder t h =
-      by-test (eqb (remainder c t) 0) (λ q. eqb-true _ _ q)
-      (λ q. absurd (true≢false (sym h ∙ ap (λ (b : Bool). b && passes k t) q)))
-
   -- a set of few enough positions that makes a passing packet of the received one is listed
   set-leads : (t ps : List ℕ) → Ascending (bits s) 0 ps → length ps ≤ limit → flips s ps ≡ t → passesBoth c k t ≡ true → Leads c k limit s ps
   set-leads t ps h few made pass =
       let cancels : bitXor (remainder c s) (syndrome (c .generator .degree) (c .generator .coefficients) ps) ≡ 0 =
-      sym (remainder-syndrome c k limit s fit bs ps h) ∙ ap (remainder c) made ∙ passes-remainder t pass in
+      sym (remainder-syndrome c k limit s fit bs ps h) ∙ ap (remainder c) made ∙ both-passed c k t pass .0 in
       record {
         listed = listed-iff (c .generator .degree) (c .generator .coefficients) (bits s) limit (remainder c s) ps .1 (h, few, sym (xor-zero-equal _ _ cancels));
         passing = rw made pass;

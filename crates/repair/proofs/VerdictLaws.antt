@@ -1,14 +1,15 @@
--- The verdict in the words of docs/RULES.md. For a listed pattern the flipped packet's remainder is 0, so that a passing range
--- is as much as passing both checks; and since the list ascends, one member is one set, several are several sets, and the first
+-- The verdict in the words of docs/RULES.md. For a listed pattern the flipped packet's remainder is 0, so that passing the second
+-- check is as much as passing both; and since the list ascends, one member is one set, several are several sets, and the first
 -- member is the earliest.
 use mathlib.Core.Path.{_≡_, refl, sym, ap, subst, _∙_}
-use mathlib.Core.Bool.{Bool, true, false, _&&_, true≢false}
+use mathlib.Core.Bool.{Bool, true, false, _&&_, true≢false, and-true}
 use mathlib.Core.Logic.{_↔_}
 use mathlib.Core.List.{List, [], _∷_}
 use Prim.Native.Nat.{ℕ, _<_, _≤_}
 use native.Mathlib.Omega.{arith}
-use borrow.Author.Tests.{eq-eqb}
+use borrow.Author.Tests.{eq-eqb, eqb-true}
 use lib.Bits.{bitXor, xor-self}
+use lib.Dec.{eqb}
 use lib.ListN.{length}
 use Rattle.base.specs.Lists.{In, here, there, All, Ascending}
 use Rattle.base.proofs.Cases.{by-test}
@@ -109,6 +110,18 @@ several-more (x ∷ y ∷ ys) sorted n q = (
   λ h. let d = h .1 in let e = earliest-first sorted (h .2) in cc,
 )
 
+-- who passes both checks passes each
+pub both-passed : (c : Crc) (k : Check) (s : List ℕ) → passesBoth c k s ≡ true → (remainder c s ≡ 0) × (passes k s ≡ true)
+unfolding passesBoth
+both-passed c k s h =
+    by-test (eqb (remainder c s) 0) (λ q. (eqb-true _ _ q, rw q at h))
+    (λ q. absurd (true≢false (sym h ∙ ap (λ (b : Bool). b && passes k s) q)))
+
+-- where the second check is passed, the CRC decides
+pub passes-by-crc : (c : Crc) (k : Check) (s : List ℕ) → passes k s ≡ true → passesBoth c k s ≡ eqb (remainder c s) 0
+unfolding passesBoth
+passes-by-crc c k s h = rw h (and-true _)
+
 module _ (c : Crc) (k : Check) (limit : ℕ) (s : List ℕ) where
   -- what is said of a packet that does not pass, and what is said at all
   unpassed : passesBoth c k s ≡ false → verdict c k limit s ≡ settled (candidates c k limit s)
@@ -184,7 +197,7 @@ module _ (c : Crc) (k : Check) (limit : ℕ) (s : List ℕ) (fit : Fit (c .gener
       ∙ ap (bitXor (remainder c s)) (l .2)
       ∙ xor-self (remainder c s)
 
-  -- and passing the range is then passing both
+  -- and passing the second check is then passing both
   pub listed-passes : (ps : List ℕ) → In ps (packetList c limit s) → passesBoth c k (flips s ps) ≡ passes k (flips s ps)
   unfolding passesBoth
   listed-passes ps h = ap (λ (b : Bool). b && passes k (flips s ps)) (eq-eqb _ _ (listed-remainder ps h))

@@ -1,10 +1,10 @@
 -- The repair call and the handing back: what they answer, and what the output then holds.
 use Prim.Native.Nat.{ℕ}
 use mathlib.Core.Path.{_≡_}
-use mathlib.Core.Bool.{Bool, not}
+use mathlib.Core.Bool.{Bool, not, _&&_}
 use mathlib.Core.List.{List, [], _∷_}
 use denote.Ref.{RefT}
-use lib.Dec.{eqb}
+use lib.Dec.{eqb, ltb}
 use lib.ListN.{length}
 use Rattle.base.specs.Outcome.{Outcome, refused, accepted, Condition, when, judge}
 use Rattle.base.specs.Refusals.{number}
@@ -12,7 +12,7 @@ use Rattle.poly.specs.Generators.{unfit}
 use Rattle.packet.specs.Packet.{bits, unfitLength, unfitValues}
 use Rattle.packet.specs.declared.Crc.{Crc}
 use Rattle.tables.specs.Tables.{unfitTables, wrongTables}
-use Rattle.checksum.specs.Checksum.{unfitRange}
+use Rattle.checksum.specs.Checksum.{unfitRange, unfitField}
 use Rattle.checksum.specs.declared.Check.{Check}
 use Rattle.patterns.specs.Listing.{unfitLimit}
 use Rattle.repair.specs.Verdicts.{Said, intact, repaired, several, nothing, said, verdict, outputFor}
@@ -45,7 +45,11 @@ repairRequest crc check limit steps firsts packet output =
 unfoldable pub unfitCopy : ℕ → ℕ → Bool
 unfitCopy room long = not (eqb room long)
 
--- a repair call is refused by 1, 2, 11, 3, 5, 6, 8 and 9
+-- condition 10 of a repair: where there is a second check, a field that stamp would turn down
+unfoldable pub unfitCheckField : Check → Bool
+unfitCheckField k = ltb (k .from) (k .to) && unfitField k
+
+-- a repair call is refused by 1, 2, 11, 3, 5, 6, 8, 9 and 10
 abbrev pub repairConditions : Repair → List Condition
 repairConditions r =
     let g = r .crc .generator in
@@ -57,6 +61,7 @@ repairConditions r =
     ∷ when 6 (wrongTables (g .degree) (g .coefficients) (r .steps) (r .firsts))
     ∷ when 8 (unfitCopy (length (r .output)) (length (r .packet)))
     ∷ when 9 (unfitRange (g .degree) (bits (r .packet)) (r .check))
+    ∷ when 10 (unfitCheckField (r .check))
     ∷ []
 
 abbrev pub repairAnswer : RepairAnswer → Outcome Said

@@ -1,8 +1,9 @@
 -- What the inner functions of a repair ask and tell.
 use mathlib.Core.Path.{_≡_}
 use mathlib.Core.Bool.{Bool, true, false}
+use mathlib.Core.Logic.{_≢_}
 use mathlib.Core.List.{List, [], _∷_}
-use Prim.Native.Nat.{ℕ, _≤_}
+use Prim.Native.Nat.{ℕ, _+_, _≤_}
 use lib.ListN.{length}
 use Rattle.packet.specs.Packet.{Bytes}
 use Rattle.packet.specs.Reading.{Readable}
@@ -35,5 +36,6 @@ pub record Settleable (c : Crc) (k : Check) (limit : ℕ) (steps firsts packet :
   pub few : limit ≤ mostPositions
   pub ordered : k .from ≤ k .to
   pub inside : k .to ≤ length packet
+  pub fieldInside : k .from ≢ k .to → k .field + 2 ≤ k .to
   pub rightSteps : steps ≡ stepTable (c .generator .degree) (c .generator .coefficients)
   pub rightFirsts : firsts ≡ firstTable (c .generator .degree) (c .generator .coefficients)

@@ -29,6 +29,7 @@ ghost use Rattle.repair.specs.Verdicts.{said, settled, verdict, outputFo
 ghost use Rattle.repair.specs.Tallies.{Tallied, added, Settleable};
 ghost use Rattle.repair.specs.Calls.{
   repairRequest,
+  unfitCheckField,
   repairConditions,
   repairAnswer,
   repairCall,
@@ -213,7 +214,7 @@ fn by_tally(t: Tally) -> Verdict
     Verdict::Several(count, chosen)
 }
 
-// Whether a packet passes both checks, by its remainder and its range.
+// Whether a packet passes both checks, by its remainder and the second check.
 fn both_pass(syndrome: u64, w: Weighed, packet: &[u8]) -> bool
     requires { ⌜ Weighs w (now packet) ⌝ }
     ensures { λ r. ⌜ r ≡ (eqb syndrome 0 && passes (w .check) (now (packet .entry))) ⌝ }
@@ -267,6 +268,18 @@ fn mend(packet: &[u8], p: Pattern, output: &mut [u8])
     packet::flip_bits(output, &held[..n]);
 }
 
+// Condition 10 of a repair, for any numbers.
+fn unfit_check_field(check: Check) -> bool
+    ensures { λ r. ⌜ r ≡ unfitCheckField check ⌝ }
+{
+    let from = check.from;
+    let to = check.to;
+    if to <= from {
+        return false;
+    }
+    checksum::unfit_field(check)
+}
+
 // The conditions of a repair, in their order.
 fn judge_repair(
     generator: u64,
@@ -305,6 +318,9 @@ fn judge_repair(
     }
     if checksum::unfit_range(g, packet.len(), check) {
         return Judgement::Refused(Refusal::Range);
+    }
+    if unfit_check_field(check) {
+        return Judgement::Refused(Refusal::Field);
     }
     Judgement::Passed
 }

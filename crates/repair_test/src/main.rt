@@ -2,8 +2,8 @@
 //
 // The input: the number of groups. A group: the generator and the size of the tables to build, a change (0 steps, 1 firsts;
 // the place; what is XORed in), how many entries of each are lent, and the number of its cases. A case: generator, initial
-// and final value, range and limit of the calls, the packet's length and its bytes as testkit::read_packet takes them, the
-// room for the output, a first position, and how many from there on are flipped in turn, each alone, after a call with none.
+// and final value, range, field and limit of the calls, the packet's length and its bytes as testkit::read_packet takes them,
+// the room for the output, a first position, and how many from there on are flipped in turn, each alone, after a call with none.
 // The numbers of a call are given by their high and low 32 bits.
 use checksum::Check;
 use libc::STDIN_FILENO;
@@ -139,9 +139,10 @@ fn case(text: &[u8], at: usize, steps: &[u16], firsts: &[u16]) -> usize {
     let xorout = testkit::wide(text, init.next);
     let from = testkit::wide(text, xorout.next);
     let to = testkit::wide(text, from.next);
-    let limit = testkit::wide(text, to.next);
+    let field = testkit::wide(text, to.next);
+    let limit = testkit::wide(text, field.next);
     let len = testkit::number(text, limit.next);
-    let check = checksum::check_of(from.value as usize, to.value as usize);
+    let check = checksum::check_of(from.value as usize, to.value as usize, field.value as usize);
     let set = Setting {
         generator: generator.value,
         init: init.value,
@@ -198,7 +199,7 @@ fn answer(text: &[u8]) {
 }
 
 fn main() {
-    let mut text = [0u8; 131072];
+    let mut text = [0u8; 196608];
     let n = io::read_full(STDIN_FILENO, &mut text);
     answer(&text[..n]);
 }

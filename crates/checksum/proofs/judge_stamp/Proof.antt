@@ -15,7 +15,7 @@ use Rattle.checksum.proofs.judge_stamp.Statement.{statement}
 use Rattle.checksum.proofs.judge_stamp.Tie as tie
 
 abbrev conditions : tie.Start → List Condition
-conditions s = stampConditions (s .args .generator) (8 * s .args .len) (s .args .check) (s .args .field)
+conditions s = stampConditions (s .args .generator) (8 * s .args .len) (s .args .check)
 
 -- what is left to test, at first and past each condition; the generator tested is that of the number
 left0 : (s : tie.Start) → Untested (conditions s) (conditions s)

@@ -16,7 +16,7 @@ use Rattle.checksum.proofs.stamp.Tie as tie
 
 abbrev conditions : tie.Start → List Condition
 conditions s =
-    stampConditions (s .args .generator) (8 * length (s .args .packet .now)) (s .args .check) (s .args .field)
+    stampConditions (s .args .generator) (8 * length (s .args .packet .now)) (s .args .check)
 
 fill-field-requires : tie.Need-fill-field-requires
 fill-field-requires c κs =
@@ -25,7 +25,7 @@ fill-field-requires c κs =
     let s = j .before .before in
     let a = s .args in
     let clear = none-applies (conditions s) (j .judge-stamp .ensures) (m .enum-told .given .1) in
-    omega (arith, fit-range (degree (a .generator)) (8 * length (a .packet .now)) (a .check) (clear 9), fit-field (a .check) (a .field) (clear 10))
+    omega (arith, fit-range (degree (a .generator)) (8 * length (a .packet .now)) (a .check) (clear 9), fit-field (a .check) (clear 10))
 
 returns : tie.Need-returns
 returns c =
@@ -34,7 +34,7 @@ returns c =
     let q = s .args .packet .now in
     let h = c .before .judged .given .1 in (
       sym (turned-down (conditions s) (j .judge-stamp .ensures) h refused (accepted tt)),
-      sym (turned-down (conditions s) (j .judge-stamp .ensures) h (λ _. q) (stamped (s .args .check) (s .args .field) q)),
+      sym (turned-down (conditions s) (j .judge-stamp .ensures) h (λ _. q) (stamped (s .args .check) q)),
     )
 
 returns-2 : tie.Need-returns-2
@@ -46,7 +46,7 @@ returns-2 c =
     let q = s .args .packet .now in
     let h = m .enum-told .given .1 in (
       sym (let-through (conditions s) (j .judge-stamp .ensures) h refused (accepted tt)),
-      f .fill-field .ensures ∙ sym (let-through (conditions s) (j .judge-stamp .ensures) h (λ _. q) (stamped (s .args .check) (s .args .field) q)),
+      f .fill-field .ensures ∙ sym (let-through (conditions s) (j .judge-stamp .ensures) h (λ _. q) (stamped (s .args .check) q)),
     )
 
 pub stamp-spec : {M : Type 1} → statement M

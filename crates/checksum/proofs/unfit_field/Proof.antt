@@ -7,16 +7,16 @@ use Rattle.checksum.proofs.unfit_field.Statement.{statement}
 use Rattle.checksum.proofs.unfit_field.Tie as tie
 
 returns : tie.Need-returns
-returns c = sym (before-unfit _ _ (c .if1 .taken))
+returns c = sym (before-unfit _ (c .if1 .taken))
 
 returns-2 : tie.Need-returns-2
-returns-2 c = sym (past-unfit _ _ (omega arith))
+returns-2 c = sym (past-unfit _ (omega arith))
 
 returns-3 : tie.Need-returns-3
-returns-3 c = sym (past-unfit _ _ (omega arith))
+returns-3 c = sym (past-unfit _ (omega arith))
 
 returns-4 : tie.Need-returns-4
-returns-4 c = sym (field-unfit _ _ (omega arith) (omega arith))
+returns-4 c = sym (field-unfit _ (omega arith) (omega arith))
 
 pub unfit-field-spec : {M : Type 1} → statement M
 unfit-field-spec = tie.close (tie.spec returns returns-2 (λ c. search needs) returns-3 returns-4)

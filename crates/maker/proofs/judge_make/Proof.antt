@@ -17,7 +17,7 @@ use Rattle.maker.proofs.judge_make.Statement.{statement}
 use Rattle.maker.proofs.judge_make.Tie as tie
 
 abbrev conditions : tie.Start → List Condition
-conditions s = makeConditions (crcOf (s .args .generator) (s .args .init) (s .args .xorout)) (8 * s .args .len) (s .args .check) (s .args .field)
+conditions s = makeConditions (crcOf (s .args .generator) (s .args .init) (s .args .xorout)) (8 * s .args .len) (s .args .check)
 
 abbrev shared : tie.Start → List Condition
 shared s = packetConditions (crcOf (s .args .generator) (s .args .init) (s .args .xorout)) (8 * s .args .len)

@@ -18,7 +18,7 @@ use Rattle.maker.proofs.make.Tie as tie
 abbrev conditions : tie.Start → List Condition
 conditions s =
     let a = s .args in
-    makeConditions (crcOf (a .generator) (a .init) (a .xorout)) (8 * length (a .packet .now)) (a .check) (a .field)
+    makeConditions (crcOf (a .generator) (a .init) (a .xorout)) (8 * length (a .packet .now)) (a .check)
 
 -- what an accepted call answers, and what it leaves
 abbrev state : tie.Start → ℕ
@@ -27,7 +27,7 @@ state s = stateAfter (length (s .args .packet .now)) (s .args .seed)
 abbrev whole : tie.Start → List ℕ
 whole s =
     let a = s .args in
-    made (crcOf (a .generator) (a .init) (a .xorout)) (a .seed) (a .check) (a .field) (length (a .packet .now))
+    made (crcOf (a .generator) (a .init) (a .xorout)) (a .seed) (a .check) (length (a .packet .now))
 
 returns : tie.Need-returns
 returns c =
@@ -52,8 +52,8 @@ returns-2 c =
       ap accepted (w .fill .ensures .0) ∙ sym (let-through (conditions s) e h refused (accepted (state s))),
       z .seal .ensures .1
           ∙ ap (sealPacket (crcOf (a .generator) (a .init) (a .xorout)))
-          (t .stamp .ensures .1 ∙ ap (stampPacket (a .generator) (a .check) (a .field)) (w .fill .ensures .1))
-          ∙ made-by-calls (a .generator) (a .init) (a .xorout) (a .seed) (a .check) (a .field) (length (a .packet .now)) (none-applies (conditions s) e h)
+          (t .stamp .ensures .1 ∙ ap (stampPacket (a .generator) (a .check)) (w .fill .ensures .1))
+          ∙ made-by-calls (a .generator) (a .init) (a .xorout) (a .seed) (a .check) (length (a .packet .now)) (none-applies (conditions s) e h)
           ∙ sym (let-through (conditions s) e h (λ _. a .packet .now) (whole s)),
     )
 

@@ -8,11 +8,11 @@ use Rattle.rangqoda.proofs.CodeLaws.{code-refused, code-accepted, chang
 use Rattle.rangqoda.proofs.rangqoda_make.Statement.{statement}
 use Rattle.rangqoda.proofs.rangqoda_make.Tie as tie
 
--- what `make` ensures, of the check of the two numbers
+-- what `make` ensures, of the check of the three numbers
 made : (c : tie.After-make) →
     let a = c .before .before .before .before .args in
-    (makeAnswer (c .make .result) ≡ makeCall (crcOf (a .generator) (a .init) (a .xorout)) (a .seed) (checkOf (a .start) (a .end)) (a .field) (a .packet .now))
-    × (c .make .last .1 .1 .1 .1 .1 .1 .0 ≡ makePacket (crcOf (a .generator) (a .init) (a .xorout)) (a .seed) (checkOf (a .start) (a .end)) (a .field) (a .packet .now))
+    (makeAnswer (c .make .result) ≡ makeCall (crcOf (a .generator) (a .init) (a .xorout)) (a .seed) (checkOf (a .start) (a .end) (a .field)) (a .packet .now))
+    × (c .make .last .1 .1 .1 .1 .1 .0 ≡ makePacket (crcOf (a .generator) (a .init) (a .xorout)) (a .seed) (checkOf (a .start) (a .end) (a .field)) (a .packet .now))
 made c = rw (← c .before .before .check-of .ensures) (c .make .ensures)
 
 returns : tie.Need-returns

@@ -25,7 +25,7 @@ given c check k =
 abbrev request : tie.After-repair → Repair
 request c =
     let a = c .before .before .before .before .before .before .before .before .before .args in
-    given c (checkOf (a .start) (a .end)) (room (a .verdict .now) (a .output .now))
+    given c (checkOf (a .start) (a .end) (a .field)) (room (a .verdict .now) (a .output .now))
 
 as-given : (c : tie.After-repair) → given c (c .before .before .check-of .result) (c .before .before .before .room-for .result) ≡ request c
 as-given c = ap₂ (given c) (c .before .before .check-of .ensures) (c .before .before .before .room-for .ensures)

@@ -7,11 +7,11 @@ use Rattle.rangqoda.proofs.CodeLaws.{code-refused, code-accepted}
 use Rattle.rangqoda.proofs.rangqoda_stamp.Statement.{statement}
 use Rattle.rangqoda.proofs.rangqoda_stamp.Tie as tie
 
--- what `stamp` ensures, of the check of the two numbers
+-- what `stamp` ensures, of the check of the three numbers
 stamped : (c : tie.After-stamp) →
     let a = c .before .before .before .before .args in
-    (stampAnswer (c .stamp .result) ≡ stampCall (a .generator) (checkOf (a .start) (a .end)) (a .field) (a .packet .now))
-    × (c .stamp .last .1 .1 .1 .0 ≡ stampPacket (a .generator) (checkOf (a .start) (a .end)) (a .field) (a .packet .now))
+    (stampAnswer (c .stamp .result) ≡ stampCall (a .generator) (checkOf (a .start) (a .end) (a .field)) (a .packet .now))
+    × (c .stamp .last .1 .1 .0 ≡ stampPacket (a .generator) (checkOf (a .start) (a .end) (a .field)) (a .packet .now))
 stamped c = rw (← c .before .before .check-of .ensures) (c .stamp .ensures)
 
 returns : tie.Need-returns

@@ -1,4 +1,4 @@
--- `judge_repair` tests conditions 1, 2, 11, 3, 5, 6, 8 and 9 in this order.
+-- `judge_repair` tests conditions 1, 2, 11, 3, 5, 6, 8, 9 and 10 in this order.
 use mathlib.Core.Path.{_≡_, refl, sym, ap, _∙_}
 use mathlib.Core.Bool.{not}
 use mathlib.Core.List.{List}
@@ -106,6 +106,9 @@ tested8 c =
     let a = entry o .args in
     c .unfit-range .ensures ∙ ap (λ (g : Generator). unfitRange (g .degree) (8 * length (a .packet .now)) (a .check)) (o .of .ensures)
 
+left8 : (c : tie.Else8) → let s = entry (made6 (c .before .before .before)) in Untested (conditions s) (drop 8 (conditions s))
+left8 c = but (left7 (c .before .before)) (tested8 (c .before)) (c .if8 .left)
+
 returns : tie.Need-returns
 returns c = stops (left0 (c .before)) (c .before .unfit-generator .ensures) (c .if1 .taken)
 
@@ -142,7 +145,10 @@ returns-8 : tie.Need-returns-8
 returns-8 c = stops (left7 (c .before .before)) (tested8 (c .before)) (c .if8 .taken)
 
 returns-9 : tie.Need-returns-9
-returns-9 c = goes-on (but (left7 (c .before .before)) (tested8 (c .before)) (c .if8 .left))
+returns-9 c = stops (left8 (c .before .before)) (c .before .unfit-check-field .ensures) (c .if9 .taken)
+
+returns-10 : tie.Need-returns-10
+returns-10 c = goes-on (but (left8 (c .before .before)) (c .before .unfit-check-field .ensures) (c .if9 .left))
 
 pub judge-repair-spec : {M : Type 1} → statement M
 judge-repair-spec =
@@ -164,4 +170,6 @@ judge-repair-spec =
     returns-7
     (λ c κs. search needs)
     returns-8
-    returns-9)
+    (λ c κs. search needs)
+    returns-9
+    returns-10)

@@ -17,7 +17,7 @@ use Rattle.tables.proofs.TableLaws.{right-unless-wrong}
 use Rattle.patterns.proofs.MarkLaws.{fit-limit}
 use Rattle.repair.specs.Verdicts.{verdict, outputFor}
 use Rattle.repair.specs.Calls.{Repair, repairRequest, repairConditions}
-use Rattle.repair.proofs.ConditionLaws.{fit-copy}
+use Rattle.repair.proofs.ConditionLaws.{fit-copy, fit-check-field}
 use Rattle.repair.proofs.repair.Statement.{statement}
 use Rattle.repair.proofs.repair.Tie as tie
 
@@ -49,6 +49,7 @@ conclude-requires c κs =
         few = fit-limit (a .limit) (clear 3);
         ordered = range .ordered;
         inside = omega (arith, range .whole);
+        fieldInside = λ h. fit-check-field (a .check) (clear 10) (omega (arith, h, range .ordered)) .within;
         rightSteps = right .0;
         rightFirsts = right .1;
       },
