@@ -4,6 +4,7 @@ pub mod Demand3
 pub mod PlainCalls
 pub mod OneAnswer
 pub mod NoChecksum
+pub mod ZeroField
 pub mod Parity
 pub mod MadePackets
 pub mod WorkedRows
