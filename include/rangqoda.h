@@ -43,12 +43,18 @@
  *              zero behind an odd one, and carries added back in. There is no
  *              pseudo-header. The sum of nothing is 0.
  *   range      The bytes [start, end) of a packet. Accepted: start <= end and
- *              8 * end <= L - n, so that it has no bit of the CRC. Where
- *              start < end, it passes if its sum is FFFFh: that is the second
- *              check. Where start = end, the packet carries no checksum. Then
- *              there is no second check, and a packet passes both where it
- *              passes the CRC. RANGQODA_NO_CHECKSUM is such a range, and is
- *              accepted with every accepted length.
+ *              8 * end <= L - n, so that it has no bit of the CRC.
+ *   field      The two bytes of the range that hold the checksum, named by the
+ *              first. Accepted: both in the range, the first an even number of
+ *              bytes from its start.
+ *   second     By range and field. Where start < end, a packet passes it if its
+ *   check      field is 0000h, which says that no checksum was made (RFC 768),
+ *              or if the sum of the range is FFFFh. Where start = end, the
+ *              packet carries no checksum. Then there is no second check, a
+ *              packet passes both where it passes the CRC, and a repair does
+ *              not look at the field: it may be any number.
+ *              RANGQODA_NO_CHECKSUM is such a range, and is accepted with every
+ *              accepted length.
  *
  *
  * Answers
@@ -72,7 +78,7 @@
  *       packet, or a verdict not of RANGQODA_VERDICT_BYTES
  *    9  start > end, or 8 * end > L - n
  *   10  field not whole in the range, or not an even number of bytes from its
- *       start
+ *       start; of a repair, only where start < end
  *   11  initial or final value 2^n or more
  *   12  rows or columns 0 or above 64
  *   13  input or output not of rows * columns bytes
@@ -136,11 +142,12 @@
  *
  * Of packets that are noise at most this part is repaired, on average:
  *
- *   (sets of at most N positions among L) / 2^n / 65535
+ *   (sets of at most N positions among L) / 2^n / 32768
  *
- * With RANGQODA_CCITT and 64 bytes (L = 512) that is 1 in 33,000 at N = 2, 1
- * in 190 at N = 3 and 2 in 3 at N = 4. Counted: 18 of 400,000 at N = 2, 66 of
- * 20,000 at N = 3, 12 of 500 at N = 4. It grows about with L^N.
+ * since one sum in 65535 is right, and one field in 65536 is zero. With
+ * RANGQODA_CCITT and 64 bytes (L = 512) that is 1 in 16,000 at N = 2, 1 in 96
+ * at N = 3; at N = 4 it is above 1 and tells nothing. Counted: 21 of 400,000 at
+ * N = 2, 66 of 20,000 at N = 3, 12 of 500 at N = 4. It grows about with L^N.
  *
  * Packets with a few more flips than N are worse than noise, since they lie
  * close to others that pass: of 64 bytes with four flipped bits 288 of 100,000
@@ -148,12 +155,18 @@
  * greater N repairs less, since several sets pass more often: a single flip in
  * 64 bytes is always repaired at N = 2, and once in nine times at N = 3.
  *
- * Without a checksum that estimate is not divided by 65535. Of noise of 16
+ * Without a checksum that estimate is not divided by 32768. Of noise of 16
  * bytes 193 of 100,000 were repaired at N = 1, and 8,068 at N = 2; and 1 in 2^n
  * is even said to be intact. With four flips, at N = 2, 3,272 of 20,000 were
  * falsely repaired in 16 bytes (24 of 100,000 with a checksum) and 940 of 20,000
  * in 64 (288 of 100,000); with three, at N = 1, 740 of 100,000 in 16 bytes and
  * 1,212 of 10,000 in 512. Take N = 1 there.
+ *
+ * Nothing but the CRC strikes a wrong set either where the packet was sent with
+ * a field of zero, as long as the set leaves the field zero. With four flips, at
+ * N = 2, 1,581 of 20,000 such packets were falsely repaired in 16 bytes and
+ * 1,098 of 20,000 in 64; with three, at N = 1, 487 of 100,000 in 16 bytes and
+ * 1,191 of 10,000 in 512. So take N = 1 for senders that make no checksum.
  *
  * So choose the least N that the channel needs, publish it beside the number
  * of repairs, and hold these for doubtful where many verdicts are
@@ -281,9 +294,10 @@ extern "C" {
 #define RANGQODA_CRC_16_UMTS           0x18005u, 0x0000u, 0x0000u
 #define RANGQODA_CRC_16_XMODEM         0x11021u, 0x0000u, 0x0000u
 
-/* The range of a packet that carries no checksum: start and end. Like the name
-   of a CRC it is no expression, and stands for its arguments. */
-#define RANGQODA_NO_CHECKSUM 0u, 0u
+/* The range of a packet that carries no checksum: start, end and a number for the
+   field. Like the name of a CRC it is no expression, and stands for its
+   arguments. */
+#define RANGQODA_NO_CHECKSUM 0u, 0u, 0u
 
 /* The numbers of the conditions above. */
 #define RANGQODA_ACCEPTED 0u
@@ -349,9 +363,10 @@ uint32_t rangqoda_seal(uint64_t generator, uint64_t initial, uint64_t final,
 uint16_t rangqoda_sum(const uint8_t *bytes, size_t len);
 
 /*
- * Stamps a packet, so that the range [start, end) passes: the two bytes at
- * field become what the sum of the range, taken with these two as zero, lacks
- * to FFFFh, high byte first.
+ * Stamps a packet, so that the sum of the range [start, end) is FFFFh: the two
+ * bytes at field become what the sum of the range, taken with these two as zero,
+ * lacks to FFFFh, high byte first. Where it lacks nothing they become FFFFh, which
+ * is as good to the sum: 0000h would say that no checksum was made.
  *
  * start, end and field are places of bytes in the packet, counted from 0. A
  * packet that is to be sealed too is stamped first.
@@ -376,7 +391,7 @@ uint32_t rangqoda_stamp(uint64_t generator,
  * Refused by 1, 2, 11, 9, 10, and so by 10 for an accepted range with
  * start = end, which has no field. Otherwise writes all bytes of packet, and
  * into *state the state after packet_len steps. A repair of the packet by the
- * same CRC and range says RANGQODA_INTACT.
+ * same CRC, range and field says RANGQODA_INTACT.
  *
  * A footnote "CRC-16/XMODEM, 16 bytes, checksum over bytes 0 to 13 at byte 12,
  * seed 7" is the call
@@ -474,15 +489,16 @@ uint32_t rangqoda_page(uint64_t generator, size_t length, size_t limit,
                        size_t *used, uint64_t *written);
 
 /*
- * Repairs a packet whose range [start, end) carries a checksum, or one that
- * carries none, start and end being the same.
+ * Repairs a packet whose range [start, end) carries a checksum at field, or one
+ * that carries none, start and end being the same.
  *
- *   RANGQODA_INTACT    the remainder is 0 and the range passes; without a
- *                      checksum, the remainder is 0
+ *   RANGQODA_INTACT    the remainder is 0 and the packet passes the second
+ *                      check; without a checksum, the remainder is 0
  *
  * Otherwise the list for the packet's length, its remainder and the limit is
- * taken. A pattern of it passes if flipping those bits makes the range pass;
- * without a checksum, each one does.
+ * taken. A pattern of it passes if the packet with those bits flipped passes
+ * the second check: its field is then 0000h, or the sum of its range FFFFh.
+ * Without a checksum each one passes.
  *
  *   RANGQODA_REPAIRED  just one passes; output holds the flipped packet (see
  *                      "What a repair does not tell" above)
@@ -494,7 +510,7 @@ uint32_t rangqoda_page(uint64_t generator, size_t length, size_t limit,
  * The tables are those of rangqoda_tables; every entry is verified in each
  * call. output_len is packet_len, verdict_len is RANGQODA_VERDICT_BYTES.
  *
- * Refused by 1, 2, 11, 3, 5, 6, 8, 9. Otherwise writes all bytes of verdict.
+ * Refused by 1, 2, 11, 3, 5, 6, 8, 9, 10. Otherwise writes all bytes of verdict.
  * output changes for RANGQODA_REPAIRED only.
  *
  * A packet without a checksum is repaired by
@@ -502,10 +518,10 @@ uint32_t rangqoda_page(uint64_t generator, size_t length, size_t limit,
  *   rangqoda_repair(RANGQODA_CRC_16_XMODEM, RANGQODA_NO_CHECKSUM, limit, ...)
  *
  * Take care that a range that was computed is not empty by mistake: it is not
- * refused.
+ * refused, and neither is any field with it.
  */
 uint32_t rangqoda_repair(uint64_t generator, uint64_t initial, uint64_t final,
-                         size_t start, size_t end, size_t limit,
+                         size_t start, size_t end, size_t field, size_t limit,
                          const uint16_t *step, size_t step_len,
                          const uint16_t *first, size_t first_len,
                          const uint8_t *packet, size_t packet_len,

@@ -1,8 +1,9 @@
 /*
  * Repairs a packet and says what to publish: repair FILE
  *
- * The file is a packet of up to 512 bytes. Its last two bytes are a CRC-16/XMODEM
- * over all before them, and a checksum stands at an even place among these.
+ * The file is a packet of an even number of bytes, up to 512. Its last two are a
+ * CRC-16/XMODEM over all before them, and the two before the CRC a checksum over
+ * all but the CRC.
  * Returns 0 if there is something to publish, 1 if not, and 2 for unfit input.
  */
 
@@ -36,7 +37,7 @@ int main(int argc, char **argv)
 
     /* These numbers fit, so this is not refused; and an unfit length is refused below. */
     rangqoda_tables(RANGQODA_GENERATOR_OF(CRC), step, ENTRIES, first, ENTRIES, &period);
-    uint32_t refused = rangqoda_repair(CRC, 0, len - 2, LIMIT, step, ENTRIES, first, ENTRIES,
+    uint32_t refused = rangqoda_repair(CRC, 0, len - 2, len - 4, LIMIT, step, ENTRIES, first, ENTRIES,
                                        packet, len, copy, len, verdict, sizeof verdict);
     if (refused) {
         fprintf(stderr, "refused %u\n", (unsigned)refused);

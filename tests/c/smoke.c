@@ -223,7 +223,7 @@ static void unfit_values(void)
 {
     static const uint64_t unfit[][2] = { { 32, 0 }, { 0, 32 }, { (uint64_t)1 << 32, 0 }, { 0, (uint64_t)1 << 32 | 1 },
                                          { UINT64_MAX, UINT64_MAX } };
-    static const unsigned others[] = { 0, 1, 2, 3, 5, 6, 8, 9 };
+    static const unsigned others[] = { 0, 1, 2, 3, 5, 6, 8, 9, 10 };
     uint64_t period;
 
     EXPECT(rangqoda_tables(RANGQODA_FIVE, step, 32, first, 32, &period) == RANGQODA_ACCEPTED);
@@ -235,8 +235,8 @@ static void unfit_values(void)
             size_t len = other == 2 ? 0 : 3;
 
             step[1] = other == 6 ? 0 : 26;
-            EXPECT(rangqoda_repair(generator, unfit[k][0], unfit[k][1], 0, other == 9 ? 3 : 2, other == 3 ? 5 : 1, step,
-                                   other == 5 ? 31 : 32, first, 32, packet, len, output, other == 8 ? 2 : len, verdict,
+            EXPECT(rangqoda_repair(generator, unfit[k][0], unfit[k][1], 0, other == 9 ? 3 : 2, other == 10, other == 3 ? 5 : 1,
+                                   step, other == 5 ? 31 : 32, first, 32, packet, len, output, other == 8 ? 2 : len, verdict,
                                    sizeof verdict) == number);
             EXPECT(rangqoda_remainder(generator, unfit[k][0], unfit[k][1], packet, len, &left) == number);
             EXPECT(rangqoda_seal(generator, unfit[k][0], unfit[k][1], packet, len) == number);
@@ -254,14 +254,14 @@ static void values(void)
 
     EXPECT(rangqoda_tables(RANGQODA_FIVE, step, 32, first, 32, &period) == RANGQODA_ACCEPTED);
     EXPECT(rangqoda_seal(RANGQODA_FIVE, 31, 9, packet, 3) == RANGQODA_ACCEPTED);
-    EXPECT(rangqoda_repair(RANGQODA_FIVE, 31, 9, 0, 2, 1, step, 32, first, 32, packet, 3, output, 3, verdict,
+    EXPECT(rangqoda_repair(RANGQODA_FIVE, 31, 9, 0, 2, 0, 1, step, 32, first, 32, packet, 3, output, 3, verdict,
                            sizeof verdict) == RANGQODA_ACCEPTED);
     EXPECT(verdict[0] == RANGQODA_INTACT);
-    EXPECT(rangqoda_repair(RANGQODA_FIVE, 0, 0, 0, 2, 1, step, 32, first, 32, packet, 3, output, 3, verdict,
+    EXPECT(rangqoda_repair(RANGQODA_FIVE, 0, 0, 0, 2, 0, 1, step, 32, first, 32, packet, 3, output, 3, verdict,
                            sizeof verdict) == RANGQODA_ACCEPTED);
     EXPECT(verdict[0] != RANGQODA_INTACT);
     packet[0] = 0x7F;
-    EXPECT(rangqoda_repair(RANGQODA_FIVE, 31, 9, 0, 2, 1, step, 32, first, 32, packet, 3, output, 3, verdict,
+    EXPECT(rangqoda_repair(RANGQODA_FIVE, 31, 9, 0, 2, 0, 1, step, 32, first, 32, packet, 3, output, 3, verdict,
                            sizeof verdict) == RANGQODA_ACCEPTED);
     EXPECT(verdict[0] == RANGQODA_REPAIRED && verdict[11] == 23 && output[0] == 0xFF && output[2] == packet[2]);
     EXPECT(RANGQODA_GENERATOR_OF(RANGQODA_CRC_16_GENIBUS) == RANGQODA_CCITT);
@@ -287,6 +287,27 @@ static void sum_and_stamp(void)
     EXPECT(memcmp(before, packet, sizeof packet) == 0);
 }
 
+/* The bytes around the field sum to FFFFh already, so zero is computed, and FFFFh written: with the field at the start of the range, at
+   its end and between, in ranges of an even and of an odd number of bytes. */
+static void computed_zeros(void)
+{
+    static const struct { size_t start, end, field; uint8_t before[8], after[8]; } rows[] = {
+        { 0, 4, 0, { 0x00, 0x00, 0xFF, 0xFF }, { 0xFF, 0xFF, 0xFF, 0xFF } },
+        { 0, 4, 2, { 0xFF, 0xFF, 0x12, 0x34 }, { 0xFF, 0xFF, 0xFF, 0xFF } },
+        { 0, 6, 2, { 0xFF, 0x00, 0x00, 0x00, 0x00, 0xFF }, { 0xFF, 0x00, 0xFF, 0xFF, 0x00, 0xFF } },
+        { 0, 5, 2, { 0xFE, 0xFF, 0x00, 0x00, 0x01, 0x80 }, { 0xFE, 0xFF, 0xFF, 0xFF, 0x01, 0x80 } },
+        { 1, 6, 1, { 0xFF, 0x12, 0x34, 0x00, 0xFF, 0xFF }, { 0xFF, 0xFF, 0xFF, 0x00, 0xFF, 0xFF } },
+    };
+    uint8_t packet[8];
+
+    for (size_t k = 0; k < sizeof rows / sizeof *rows; k++) {
+        memcpy(packet, rows[k].before, sizeof packet);
+        EXPECT(rangqoda_stamp(RANGQODA_CCITT, rows[k].start, rows[k].end, rows[k].field, packet, 8) == RANGQODA_ACCEPTED);
+        EXPECT(memcmp(packet, rows[k].after, sizeof packet) == 0);
+        EXPECT(rangqoda_sum(packet + rows[k].start, rows[k].end - rows[k].start) == 0xFFFF);
+    }
+}
+
 /* Packets from a seed: what is drawn, and what other code made of it. */
 static void made(void)
 {
@@ -308,6 +329,10 @@ static void made(void)
     EXPECT(packet[0] == 0x3C && packet[4] == 0xF2 && packet[5] == 0x0D && packet[6] == 0x52 && packet[7] == 0x37);
     EXPECT(rangqoda_make(RANGQODA_CRC_16_IBM_3740, 0, 0, 6, 4, packet, 8, &state) == RANGQODA_ACCEPTED);
     EXPECT(packet[0] == 0x3C && packet[4] == 0xF2 && packet[5] == 0x0D && packet[6] == 0x5C && packet[7] == 0x27);
+    /* a computed zero */
+    EXPECT(rangqoda_make(RANGQODA_CRC_16_XMODEM, 65871, 0, 6, 4, packet, 8, &state) == RANGQODA_ACCEPTED);
+    EXPECT(packet[0] == 0xC3 && packet[4] == 0xFF && packet[5] == 0xFF && packet[6] == 0xBE && packet[7] == 0x42);
+    EXPECT(state == 0x8D418AD7u);
 
     for (size_t k = 0; k < sizeof seeds / sizeof *seeds; k++) {
         uint32_t drawn = seeds[k], other = 0;
@@ -365,8 +390,8 @@ static void intact(void)
         verdict[0] = 77;
         output[0] = (uint8_t)k;
         wrong += rangqoda_make(RANGQODA_FIVE, initial, final, state, start, end, field, packet, len, &state) != 0;
-        wrong += rangqoda_repair(RANGQODA_FIVE, initial, final, start, end, limit, step, 32, first, 32, packet, len, output,
-                                 len, verdict, sizeof verdict) != 0;
+        wrong += rangqoda_repair(RANGQODA_FIVE, initial, final, start, end, field, limit, step, 32, first, 32, packet, len,
+                                 output, len, verdict, sizeof verdict) != 0;
         wrong += verdict[0] != RANGQODA_INTACT || output[0] != (uint8_t)k;
     }
     EXPECT(wrong == 0);
@@ -484,23 +509,23 @@ static void repairs(void)
 
     EXPECT(rangqoda_tables(RANGQODA_FIVE, step, 32, first, 32, &period) == RANGQODA_ACCEPTED);
 
-    EXPECT(rangqoda_repair(RANGQODA_FIVE, 0, 0, 0, 2, 1, step, 32, first, 32, intact, 3, output, 3, verdict,
+    EXPECT(rangqoda_repair(RANGQODA_FIVE, 0, 0, 0, 2, 0, 1, step, 32, first, 32, intact, 3, output, 3, verdict,
                            sizeof verdict) == RANGQODA_ACCEPTED);
     EXPECT(verdict[0] == RANGQODA_INTACT && verdict[8] == 0 && output[0] == 1);
     EXPECT(rangqoda_publish(verdict, sizeof verdict) == RANGQODA_PUBLISH_RECEIVED);
 
-    EXPECT(rangqoda_repair(RANGQODA_FIVE, 0, 0, 0, 2, 1, step, 32, first, 32, twice, 3, output, 3, verdict,
+    EXPECT(rangqoda_repair(RANGQODA_FIVE, 0, 0, 0, 2, 0, 1, step, 32, first, 32, twice, 3, output, 3, verdict,
                            sizeof verdict) == RANGQODA_ACCEPTED);
     EXPECT(verdict[0] == RANGQODA_NONE && verdict[8] == 0 && output[0] == 1);
     EXPECT(rangqoda_publish(verdict, sizeof verdict) == RANGQODA_PUBLISH_NOTHING);
 
-    EXPECT(rangqoda_repair(RANGQODA_FIVE, 0, 0, 0, 2, 2, step, 32, first, 32, twice, 3, output, 3, verdict,
+    EXPECT(rangqoda_repair(RANGQODA_FIVE, 0, 0, 0, 2, 0, 2, step, 32, first, 32, twice, 3, output, 3, verdict,
                            sizeof verdict) == RANGQODA_ACCEPTED);
     EXPECT(verdict[0] == RANGQODA_SEVERAL && verdict[1] == 0 && verdict[8] == 2 && output[0] == 1);
     EXPECT(verdict[9] == 2 && verdict[10] == 0 && verdict[11] == 0 && verdict[12] == 0 && verdict[13] == 1 && verdict[14] == 0);
     EXPECT(rangqoda_publish(verdict, sizeof verdict) == RANGQODA_PUBLISH_NOTHING);
 
-    EXPECT(rangqoda_repair(RANGQODA_FIVE, 0, 0, 0, 2, 1, step, 32, first, 32, once, 3, output, 3, verdict,
+    EXPECT(rangqoda_repair(RANGQODA_FIVE, 0, 0, 0, 2, 0, 1, step, 32, first, 32, once, 3, output, 3, verdict,
                            sizeof verdict) == RANGQODA_ACCEPTED);
     EXPECT(verdict[0] == RANGQODA_REPAIRED && verdict[8] == 1);
     EXPECT(verdict[9] == 1 && verdict[10] == 0 && verdict[11] == 23 && verdict[12] == 0);
@@ -508,34 +533,86 @@ static void repairs(void)
     EXPECT(rangqoda_publish(verdict, sizeof verdict) == RANGQODA_PUBLISH_COPY);
     EXPECT(rangqoda_publish(verdict, sizeof verdict - 1) == RANGQODA_PUBLISH_NOTHING);
 
-    EXPECT(rangqoda_repair(RANGQODA_FIVE, 0, 0, 0, 2, 1, step, 32, first, 32, once, 3, output, 2, verdict,
+    EXPECT(rangqoda_repair(RANGQODA_FIVE, 0, 0, 0, 2, 0, 1, step, 32, first, 32, once, 3, output, 2, verdict,
                            sizeof verdict) == RANGQODA_REFUSED_OUTPUT);
-    EXPECT(rangqoda_repair(RANGQODA_FIVE, 0, 0, 0, 2, 1, step, 32, first, 32, once, 3, output, 3, verdict,
+    EXPECT(rangqoda_repair(RANGQODA_FIVE, 0, 0, 0, 2, 0, 1, step, 32, first, 32, once, 3, output, 3, verdict,
                            sizeof verdict - 1) == RANGQODA_REFUSED_OUTPUT);
-    EXPECT(rangqoda_repair(RANGQODA_FIVE, 0, 0, 0, 3, 1, step, 32, first, 32, once, 3, output, 3, verdict,
+    EXPECT(rangqoda_repair(RANGQODA_FIVE, 0, 0, 0, 3, 0, 1, step, 32, first, 32, once, 3, output, 3, verdict,
                            sizeof verdict) == RANGQODA_REFUSED_RANGE);
     EXPECT(verdict[0] == RANGQODA_REPAIRED && memcmp(output, intact, 3) == 0);
 }
 
-/* Flips a bit of three bytes. */
-static void flip(uint8_t *packet, unsigned p)
+/* The conditions of a repair, each alone and every two at once: the first in the order 1, 2, 11, 3, 5, 6, 8, 9, 10 is the answer. The
+   field is broken by a small number, by the last place of the range, and by numbers whose sum with 2, or low 32 bits, would fit. */
+static void repair_refused_in_order(void)
 {
-    packet[2 - p / 8] = (uint8_t)(packet[2 - p / 8] ^ 1u << p % 8);
+    static const uint32_t order[] = { 1, 2, 11, 3, 5, 6, 8, 9, 10 };
+    static const size_t ranges[][2] = { { 0, 5 }, { 2, 5 }, { 0, SIZE_MAX }, { 4, 3 } };
+    static const size_t fields[] = { 1, 3, (size_t)-2, ((size_t)1 << 32) + 2 };
+    static const uint8_t nines[5] = { 9, 9, 9, 9, 9 };
+    uint64_t period;
+
+    EXPECT(rangqoda_tables(RANGQODA_FIVE, step, 32, first, 32, &period) == RANGQODA_ACCEPTED);
+    for (size_t k = 0; k < 4 * 81; k++) {
+        size_t a = k / 36, b = k / 4 % 9, way = k % 4;
+        unsigned broken = 1u << order[a] | 1u << order[b];
+        size_t start = broken & 1u << 9 ? ranges[way][0] : 0, end = broken & 1u << 9 ? ranges[way][1] : 4;
+        size_t field = broken & 1u << 10 ? fields[way] : 2, len = broken & 1u << 2 ? 0 : 5;
+        uint8_t output[5], verdict[RANGQODA_VERDICT_BYTES] = { 77 };
+
+        memcpy(output, nines, sizeof output);
+        step[1] = broken & 1u << 6 ? 0 : 26;
+        EXPECT(rangqoda_repair(broken & 1u << 1 ? 52 : RANGQODA_FIVE, broken & 1u << 11 ? 32 : 0, 0, start, end, field,
+                               broken & 1u << 3 ? 5 : 1, step, broken & 1u << 5 ? 31 : 32, first, 32, nines, len, output,
+                               broken & 1u << 8 ? len + 1 : len, verdict, sizeof verdict) == order[a < b ? a : b]);
+        EXPECT(verdict[0] == 77 && memcmp(output, nines, sizeof output) == 0);
+    }
+    step[1] = 26;
 }
+
+/* Flips a bit of so many bytes. */
+static void flip(uint8_t *packet, size_t len, unsigned p)
+{
+    packet[len - 1 - p / 8] = (uint8_t)(packet[len - 1 - p / 8] ^ 1u << p % 8);
+}
+
+/* A packet of so many bytes, with its range and field. */
+static const struct checked { size_t len, start, end, field; uint8_t sent[5]; } checked[] = {
+    { 3, 0, 2, 0, { 0xFF, 0xFF, 0x03 } },             /* a checksum alone */
+    { 3, 0, 2, 0, { 0x00, 0x00, 0x00 } },             /* and none made */
+    { 5, 0, 4, 2, { 0x12, 0x34, 0xED, 0xCB, 0x00 } }, /* at the end of the range */
+    { 5, 0, 4, 2, { 0x12, 0x34, 0x00, 0x00, 0x00 } },
+    { 5, 1, 4, 1, { 0x55, 0xED, 0xFF, 0x12, 0x00 } }, /* at the start of three bytes */
+    { 5, 1, 4, 1, { 0x55, 0x00, 0x00, 0x12, 0x00 } },
+};
 
 static uint8_t earliest[RANGQODA_RECORD_BYTES];
 static uint64_t passing, listed_before;
 
+/* Whether the packet passes the second check: its field is zero, or its words, with the carries added back in, sum to FFFFh. */
+static int second_check(const struct checked *c, const uint8_t *packet)
+{
+    unsigned total = 0;
+
+    if (packet[c->field] == 0 && packet[c->field + 1] == 0)
+        return 1;
+    for (size_t i = c->start; i < c->end; i++)
+        total += (i - c->start) % 2 == 0 ? packet[i] * 256u : packet[i];
+    while (total > 0xFFFF)
+        total = total % 0x10000 + total / 0x10000;
+    return total == 0xFFFF;
+}
+
 /* Flips every set of as many positions as the record has, in order, those before `placed` being in it and the others from p on:
    notes the first set that passes, how many do, and how many are listed before it. */
-static void flip_sets(uint8_t *packet, uint8_t *record, unsigned placed, unsigned p)
+static void flip_sets(const struct checked *c, uint8_t *packet, uint8_t *record, unsigned placed, unsigned p)
 {
     uint64_t left;
 
     if (placed == record[0]) {
-        if (rangqoda_remainder(9, 0, 0, packet, 3, &left) != 0 || left != 0)
+        if (rangqoda_remainder(9, 0, 0, packet, c->len, &left) != 0 || left != 0)
             return;
-        if (packet[0] != 0xFF || packet[1] != 0xFF) {
+        if (!second_check(c, packet)) {
             listed_before += passing == 0;
             return;
         }
@@ -544,57 +621,68 @@ static void flip_sets(uint8_t *packet, uint8_t *record, unsigned placed, unsigne
         passing++;
         return;
     }
-    for (; p < 24; p++) {
-        flip(packet, p);
+    for (; p < 8 * c->len; p++) {
+        flip(packet, c->len, p);
         record[2 + 2 * placed] = (uint8_t)p;
-        flip_sets(packet, record, placed + 1, p + 1);
-        flip(packet, p);
+        flip_sets(c, packet, record, placed + 1, p + 1);
+        flip(packet, c->len, p);
     }
 }
 
-/* Every damage of two bits in three bytes, by a generator of degree 3: the verdict is the one that flipping every set gives,
-   to the byte, and of several it names the first that passes, which often is not the first listed. */
-static void several_names_the_earliest(void)
+/* Every damage of two bits in three and in five bytes, sent with a checksum and with a field of zero, by a generator of degree 3: the
+   verdict is the one that flipping every set gives, to the byte, and of several it names the first that passes, which often is
+   not the first listed. */
+static void verdicts_by_brute_force(void)
 {
-    static const uint8_t sent[3] = { 0xFF, 0xFF, 0x03 };
-    uint8_t verdict[RANGQODA_VERDICT_BYTES], right[RANGQODA_VERDICT_BYTES], output[3], packet[3];
+    uint8_t verdict[RANGQODA_VERDICT_BYTES], right[RANGQODA_VERDICT_BYTES], output[5], sent[5], packet[5];
     uint64_t period, wrong = 0, later = 0;
 
     EXPECT(rangqoda_tables(9, step, 8, first, 8, &period) == RANGQODA_ACCEPTED);
-    for (unsigned k = 0; k < 24 * 24 * 3; k++) {
-        unsigned p = k % 24, q = k / 24 % 24, limit = 1 + k / 576;
-        uint8_t record[RANGQODA_RECORD_BYTES] = { 0 };
+    for (size_t k = 0; k < sizeof checked / sizeof *checked; k++) {
+        const struct checked *c = &checked[k];
+        unsigned bits = 8 * (unsigned)c->len;
 
-        memcpy(packet, sent, 3);
-        flip(packet, p);
-        flip(packet, q);
-        passing = listed_before = 0;
-        memset(right, 0, sizeof right);
-        memset(verdict, 0xAA, sizeof verdict);
-        flip_sets(packet, record, 0, 0);
-        if (passing > 0) {
-            right[0] = RANGQODA_INTACT;
-        } else {
-            for (record[0] = 1; record[0] <= limit; record[0]++)
-                flip_sets(packet, record, 0, 0);
-            right[0] = passing == 0 ? RANGQODA_NONE : passing == 1 ? RANGQODA_REPAIRED : RANGQODA_SEVERAL;
-            right[8] = (uint8_t)passing;
-            if (passing > 0)
-                memcpy(right + 9, earliest, sizeof earliest);
+        memcpy(sent, c->sent, sizeof sent);
+        EXPECT(rangqoda_seal(9, 0, 0, sent, c->len) == RANGQODA_ACCEPTED);
+        for (unsigned m = 0; m < bits * bits * 3; m++) {
+            unsigned p = m % bits, q = m / bits % bits, limit = 1 + m / bits / bits;
+            uint8_t record[RANGQODA_RECORD_BYTES] = { 0 };
+
+            if (q > p || (limit == 3 && c->len > 3))
+                continue;
+            memcpy(packet, sent, sizeof packet);
+            flip(packet, c->len, p);
+            flip(packet, c->len, q);
+            passing = listed_before = 0;
+            memset(right, 0, sizeof right);
+            memset(verdict, 0xAA, sizeof verdict);
+            flip_sets(c, packet, record, 0, 0);
+            if (passing > 0) {
+                right[0] = RANGQODA_INTACT;
+            } else {
+                for (record[0] = 1; record[0] <= limit; record[0]++)
+                    flip_sets(c, packet, record, 0, 0);
+                right[0] = passing == 0 ? RANGQODA_NONE : passing == 1 ? RANGQODA_REPAIRED : RANGQODA_SEVERAL;
+                right[8] = (uint8_t)passing;
+                if (passing > 0)
+                    memcpy(right + 9, earliest, sizeof earliest);
+            }
+            wrong += rangqoda_repair(9, 0, 0, c->start, c->end, c->field, limit, step, 8, first, 8, packet, c->len, output,
+                                     c->len, verdict, sizeof verdict) != 0;
+            wrong += passing > 255 || memcmp(verdict, right, sizeof right) != 0;
+            later += passing > 1 && listed_before > 0;
         }
-        wrong += rangqoda_repair(9, 0, 0, 0, 2, limit, step, 8, first, 8, packet, 3, output, 3, verdict, sizeof verdict) != 0;
-        wrong += passing > 255 || memcmp(verdict, right, sizeof right) != 0;
-        later += passing > 1 && listed_before > 0;
     }
     EXPECT(wrong == 0);
     EXPECT(later > 100);
 }
 
-/* Packets without a checksum: every damage of up to two bits in three bytes, at every place for the range, against the list that
-   the page call gives; and no field for stamp and maker. */
+/* Packets without a checksum: every damage of up to two bits in three bytes, at every place for the range and whatever is given for
+   the field, against the list that the page call gives; and no field for stamp and maker. */
 static void no_checksum(void)
 {
     static const uint8_t sent[3] = { 0x7F, 0xFE, 0x05 };
+    static const size_t fields[4] = { 0, 1, 3, SIZE_MAX };
     uint8_t verdict[RANGQODA_VERDICT_BYTES], output[3] = { 1, 2, 3 }, packet[3];
     uint64_t period, left, wrong = 0, kinds[4] = { 0 };
     uint32_t state = 77;
@@ -603,7 +691,7 @@ static void no_checksum(void)
     EXPECT(rangqoda_repair(RANGQODA_FIVE, 0, 0, RANGQODA_NO_CHECKSUM, 1, step, 32, first, 32, sent, 3, output, 3, verdict,
                            sizeof verdict) == RANGQODA_ACCEPTED);
     EXPECT(verdict[0] == RANGQODA_INTACT && verdict[8] == 0 && output[0] == 1);
-    EXPECT(rangqoda_repair(RANGQODA_FIVE, 0, 0, 0, 2, 1, step, 32, first, 32, sent, 3, output, 3, verdict,
+    EXPECT(rangqoda_repair(RANGQODA_FIVE, 0, 0, 0, 2, 0, 1, step, 32, first, 32, sent, 3, output, 3, verdict,
                            sizeof verdict) == RANGQODA_ACCEPTED);
     EXPECT(verdict[0] != RANGQODA_INTACT);
     for (unsigned k = 0; k < 24 * 25 * 3 * 4; k++) {
@@ -616,9 +704,9 @@ static void no_checksum(void)
         int within = p == q || q == 24 || limit > 1;
 
         memcpy(packet, sent, 3);
-        flip(packet, p);
+        flip(packet, 3, p);
         if (q < 24)
-            flip(packet, q);
+            flip(packet, 3, q);
         wrong += rangqoda_remainder(RANGQODA_FIVE, 0, 0, packet, 3, &left) != 0;
         while (left != 0 && mark[0] != RANGQODA_MARK_ENDED) {
             if (rangqoda_page(RANGQODA_FIVE, 24, limit, left, step, 32, first, 32, mark, sizeof mark, records, sizeof records,
@@ -630,8 +718,8 @@ static void no_checksum(void)
             right = listed == 0 ? RANGQODA_NONE : listed == 1 ? RANGQODA_REPAIRED : RANGQODA_SEVERAL;
         }
         memset(output, 0xAA, 3);
-        wrong += rangqoda_repair(RANGQODA_FIVE, 0, 0, place, place, limit, step, 32, first, 32, packet, 3, output, 3, verdict,
-                                 sizeof verdict) != 0;
+        wrong += rangqoda_repair(RANGQODA_FIVE, 0, 0, place, place, fields[k % 4], limit, step, 32, first, 32, packet, 3, output, 3,
+                                 verdict, sizeof verdict) != 0;
         wrong += verdict[0] != right || verdict[7] * 256u + verdict[8] != listed;
         wrong += memcmp(verdict + 9, begins, sizeof begins) != 0;
         wrong += right == RANGQODA_NONE && within;
@@ -644,18 +732,18 @@ static void no_checksum(void)
     EXPECT(kinds[0] > 0 && kinds[1] > 0 && kinds[2] > 0 && kinds[3] > 0);
 
     verdict[0] = 77;
-    EXPECT(rangqoda_repair(RANGQODA_FIVE, 0, 0, 3, 3, 1, step, 32, first, 32, sent, 3, output, 3, verdict,
+    EXPECT(rangqoda_repair(RANGQODA_FIVE, 0, 0, 3, 3, 0, 1, step, 32, first, 32, sent, 3, output, 3, verdict,
                            sizeof verdict) == RANGQODA_REFUSED_RANGE);
-    EXPECT(rangqoda_repair(RANGQODA_FIVE, 0, 0, SIZE_MAX, SIZE_MAX, 1, step, 32, first, 32, sent, 3, output, 3, verdict,
+    EXPECT(rangqoda_repair(RANGQODA_FIVE, 0, 0, SIZE_MAX, SIZE_MAX, 0, 1, step, 32, first, 32, sent, 3, output, 3, verdict,
                            sizeof verdict) == RANGQODA_REFUSED_RANGE);
-    EXPECT(rangqoda_repair(RANGQODA_FIVE, 0, 0, 1, 0, 1, step, 32, first, 32, sent, 3, output, 3, verdict,
+    EXPECT(rangqoda_repair(RANGQODA_FIVE, 0, 0, 1, 0, 0, 1, step, 32, first, 32, sent, 3, output, 3, verdict,
                            sizeof verdict) == RANGQODA_REFUSED_RANGE);
     EXPECT(verdict[0] == 77);
     memcpy(packet, sent, 3);
-    EXPECT(rangqoda_stamp(RANGQODA_FIVE, RANGQODA_NO_CHECKSUM, 0, packet, 3) == RANGQODA_REFUSED_FIELD);
+    EXPECT(rangqoda_stamp(RANGQODA_FIVE, RANGQODA_NO_CHECKSUM, packet, 3) == RANGQODA_REFUSED_FIELD);
     EXPECT(rangqoda_stamp(RANGQODA_FIVE, 2, 2, 2, packet, 3) == RANGQODA_REFUSED_FIELD);
     EXPECT(rangqoda_stamp(RANGQODA_FIVE, 3, 3, 3, packet, 3) == RANGQODA_REFUSED_RANGE);
-    EXPECT(rangqoda_make(RANGQODA_FIVE, 0, 0, 5, RANGQODA_NO_CHECKSUM, 0, packet, 3, &state) == RANGQODA_REFUSED_FIELD);
+    EXPECT(rangqoda_make(RANGQODA_FIVE, 0, 0, 5, RANGQODA_NO_CHECKSUM, packet, 3, &state) == RANGQODA_REFUSED_FIELD);
     EXPECT(rangqoda_make(RANGQODA_FIVE, 0, 0, 5, 3, 3, 0, packet, 3, &state) == RANGQODA_REFUSED_RANGE);
     EXPECT(rangqoda_make(RANGQODA_FIVE, 32, 0, 5, 3, 3, 0, packet, 3, &state) == RANGQODA_REFUSED_VALUES);
     EXPECT(state == 77 && memcmp(packet, sent, 3) == 0);
@@ -743,6 +831,7 @@ int main(void)
     unfit_values();
     values();
     sum_and_stamp();
+    computed_zeros();
     made();
     unmade();
     intact();
@@ -750,7 +839,8 @@ int main(void)
     pages();
     after_every_mark();
     repairs();
-    several_names_the_earliest();
+    repair_refused_in_order();
+    verdicts_by_brute_force();
     no_checksum();
     blocks();
     printf("%d checks, %d failed\n", checks, failures);

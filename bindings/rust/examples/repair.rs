@@ -13,8 +13,8 @@ fn show(what: &str, packet: &[u8]) {
 fn run() -> Result<(), Refusal> {
     // Twelve bytes of data, two of checksum at byte 12, two of CRC. The checksum is over all but the CRC.
     let mut sent = *b"ch 7 badge 2\0\0\0\0";
-    let range = 0..14;
-    stamp(CRC.generator, range.clone(), 12, &mut sent)?;
+    let (range, field) = (0..14, 12);
+    stamp(CRC.generator, range.clone(), field, &mut sent)?;
     seal(CRC, &mut sent)?;
     show("sent", &sent);
 
@@ -30,7 +30,7 @@ fn run() -> Result<(), Refusal> {
     for limit in 1..=4 {
         let listed = tables.patterns(8 * received.len(), limit, syndrome)?.count();
         let mut copy = [0; 16];
-        let verdict = tables.repair(CRC, range.clone(), limit, &received, &mut copy)?;
+        let verdict = tables.repair(CRC, range.clone(), field, limit, &received, &mut copy)?;
         println!("up to {limit}: {listed} patterns listed, {verdict:?}");
         if let Verdict::Repaired(_) = verdict {
             let publish = hand_back(&received, &copy, &verdict);

@@ -2,15 +2,19 @@
 //!
 //! First, packets of noise. Nothing was sent that they could be repaired to, so every repair of one is false, and so is every
 //! Intact. Beside the count stands the estimate that can be made without a trial: the sets of at most N positions, divided by
-//! 2^16 (the CRC) and by 65,535 (the checksum), are those expected to pass.
+//! 2^16 (the CRC) and by 32,768 (the checksum: one sum in 65,535 is right, and one field in 65,536 is zero), are those expected
+//! to pass.
 //!
 //! Then packets that were stamped and sealed, with some bits flipped: how many are repaired to what was sent, and how many
-//! to something else.
+//! to something else. Then the same of packets that were sealed with a field of zero, as sent where no checksum was made.
 //!
-//! Last, both of packets that carry no checksum.
+//! Last, noise and flipped bits of packets that carry no checksum.
 
 use rangqoda::{catalogue::CRC_16_XMODEM as CRC, seal, stamp, Refusal, Tables, Verdict, CCITT, NO_CHECKSUM};
 use std::ops::Range;
+
+/// Where the checksum stands.
+const FIELD: usize = 0;
 
 const NOISE: &str = "bytes  N expected to pass   trials repaired  several   intact";
 const FLIPS: &str = "bytes  N  flips   trials  rightly  falsely  several     none";
@@ -66,38 +70,45 @@ fn noise(tables: &Tables, range: Range<usize>, bytes: usize, limit: usize, trial
     let (mut repaired, mut several, mut intact) = (0, 0, 0);
     for _ in 0..trials {
         let packet = random_bytes(bytes, &mut state);
-        match tables.repair(CRC, range.clone(), limit, &packet, &mut copy)? {
+        match tables.repair(CRC, range.clone(), FIELD, limit, &packet, &mut copy)? {
             Verdict::Repaired(_) => repaired += 1,
             Verdict::Several { .. } => several += 1,
             Verdict::Intact => intact += 1,
             Verdict::None => {}
         }
     }
-    let sums = if range.is_empty() { 1.0 } else { 65535.0 };
+    let sums = if range.is_empty() { 1.0 } else { 32768.0 };
     let expected = sets_of_at_most(limit, 8 * bytes) / 65536.0 / sums;
     println!("{bytes:>5} {limit:>2} {expected:>16.9} {trials:>8} {repaired:>8} {several:>8} {intact:>8}");
     Ok(())
 }
 
-fn flips(
-    tables: &Tables,
-    range: Range<usize>,
-    bytes: usize,
-    limit: usize,
-    flips: usize,
-    trials: usize,
-) -> Result<(), Refusal> {
+/// How packets are sent.
+#[derive(Clone, Copy)]
+enum Sent {
+    /// With a checksum over all but the CRC.
+    Stamped,
+    /// With a field of zero in its stead.
+    Unsummed,
+    /// Without a field.
+    Bare,
+}
+
+fn flips(tables: &Tables, how: Sent, bytes: usize, limit: usize, flips: usize, trials: usize) -> Result<(), Refusal> {
     let mut state = 1;
     let mut copy = vec![0; bytes];
+    let range = if let Sent::Bare = how { NO_CHECKSUM } else { all_but_the_crc(bytes) };
     let (mut rightly, mut falsely, mut several, mut none) = (0, 0, 0, 0);
     for _ in 0..trials {
         let mut sent = random_bytes(bytes, &mut state);
-        if !range.is_empty() {
-            stamp(CCITT, range.clone(), 0, &mut sent)?;
+        match how {
+            Sent::Stamped => stamp(CCITT, range.clone(), FIELD, &mut sent)?,
+            Sent::Unsummed => sent[FIELD..FIELD + 2].fill(0),
+            Sent::Bare => {}
         }
         seal(CRC, &mut sent)?;
         let received = damaged(&sent, flips, &mut state);
-        match tables.repair(CRC, range.clone(), limit, &received, &mut copy)? {
+        match tables.repair(CRC, range.clone(), FIELD, limit, &received, &mut copy)? {
             Verdict::Repaired(_) if copy == sent => rightly += 1,
             Verdict::Repaired(_) | Verdict::Intact => falsely += 1,
             Verdict::Several { .. } => several += 1,
@@ -150,7 +161,22 @@ fn run() -> Result<(), Refusal> {
         (512, 2, 3, 10_000),
         (512, 2, 4, 10_000),
     ] {
-        flips(&tables, all_but_the_crc(bytes), bytes, limit, flipped, trials)?;
+        flips(&tables, Sent::Stamped, bytes, limit, flipped, trials)?;
+    }
+    println!("\nFlipped bits, a field of zero\n{FLIPS}");
+    for (bytes, limit, flipped, trials) in [
+        (16, 1, 1, 20_000),
+        (16, 1, 3, 100_000),
+        (16, 2, 2, 20_000),
+        (16, 2, 4, 20_000),
+        (64, 1, 1, 20_000),
+        (64, 1, 3, 100_000),
+        (64, 2, 2, 20_000),
+        (64, 2, 4, 20_000),
+        (512, 1, 1, 10_000),
+        (512, 1, 3, 10_000),
+    ] {
+        flips(&tables, Sent::Unsummed, bytes, limit, flipped, trials)?;
     }
     println!("\nNoise, no checksum\n{NOISE}");
     for (bytes, limit, trials) in
@@ -176,7 +202,7 @@ fn run() -> Result<(), Refusal> {
         (512, 1, 3, 10_000),
         (512, 2, 2, 10_000),
     ] {
-        flips(&tables, NO_CHECKSUM, bytes, limit, flipped, trials)?;
+        flips(&tables, Sent::Bare, bytes, limit, flipped, trials)?;
     }
     Ok(())
 }

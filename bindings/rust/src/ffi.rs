@@ -90,6 +90,7 @@ extern "C" {
         xorout: u64,
         start: usize,
         end: usize,
+        field: usize,
         limit: usize,
         step: *const u16,
         step_len: usize,

@@ -22,9 +22,11 @@
 //! - A *pattern* is a set of at most four positions: bits that may have flipped. The *list* for a generator, L, a limit N
 //!   and a syndrome has all patterns below L with that syndrome and at most N positions. Small patterns stand before large
 //!   ones; those of one size go by their smallest positions, the lower first, then by the next smallest, and so on.
-//! - A *range* `start..end` of packet bytes is accepted where start ≤ end and 8 end ≤ L - n. Where start < end, it *passes* if its
-//!   sum is FFFFh: that is the second check. Where start = end, the packet carries no checksum: there is no second check, and a
-//!   packet passes both where it passes the CRC.
+//! - A *range* `start..end` of packet bytes is accepted where start ≤ end and 8 end ≤ L - n. Its *field* is the two bytes that hold the
+//!   checksum, named by the first: both in the range, the first an even number of bytes from its start.
+//! - The *second check* is by range and field. Where start < end, a packet passes it if its field is 0000h, which says that no checksum
+//!   was made (RFC 768), or if the sum of the range is FFFFh. Where start = end, the packet carries no checksum: there is no second
+//!   check, a packet passes both where it passes the CRC, and a repair does not look at the field.
 //!
 //! # Which CRC this is
 //!
@@ -50,9 +52,9 @@
 //! N bits flipped, that is the packet sent. If more did, it may be a wrong packet, and nothing in the verdict shows it.
 //!
 //! Of packets that are noise at most this part is repaired, on average: the sets of at most N positions among L, divided by
-//! 2^n and by 65,535. With [`CCITT`] and 64 bytes that is 1 in 33,000 at N = 2, 1 in 190 at N = 3 and 2 in 3 at N = 4. Packets
-//! with a few more flips than N are worse than noise, since they lie close to others that pass: of 64 bytes with four
-//! flipped bits 288 of 100,000 were falsely repaired at N = 2. And a greater N repairs less, since several sets pass more
+//! 2^n and by 32,768. With [`CCITT`] and 64 bytes that is 1 in 16,000 at N = 2 and 1 in 96 at N = 3; at N = 4 it is above 1 and
+//! tells nothing. Packets with a few more flips than N are worse than noise, since they lie close to others that pass: of 64 bytes
+//! with four flipped bits 288 of 100,000 were falsely repaired at N = 2. And a greater N repairs less, since several sets pass more
 //! often. The example `trials` counts all this. So choose the least N that the channel needs, publish it beside the number
 //! of repairs, and hold these for doubtful where many verdicts are [`Verdict::None`].
 //!
@@ -84,7 +86,7 @@
 //!
 //! let tables = Tables::new(CRC.generator)?;
 //! let mut copy = [0; 14];
-//! let verdict = tables.repair(CRC, 0..12, 2, &received, &mut copy)?;
+//! let verdict = tables.repair(CRC, 0..12, 10, 2, &received, &mut copy)?;
 //! assert!(matches!(verdict, Verdict::Repaired(pattern) if pattern.as_slice() == [40, 84]));
 //! assert_eq!(hand_back(&received, &copy, &verdict), sent);
 //! # Ok::<(), rangqoda::Refusal>(())
@@ -109,10 +111,11 @@ pub const CCITT: u64 = 0x11021;
 /// The entry of a first-position table where no power of x leaves the remainder.
 pub const NO_POSITION: u16 = 65535;
 
-/// The range of a packet that carries no checksum, accepted with every accepted length: a repair then goes by the CRC alone. Any
-/// other accepted range with start = end says the same. So take care that a range that was computed is not empty by mistake.
+/// The range of a packet that carries no checksum, accepted with every accepted length: a repair then goes by the CRC alone, and any
+/// number will do for its field. Any other accepted range with start = end says the same. So take care that a range that was computed
+/// is not empty by mistake: neither it nor any field with it is refused.
 ///
-/// Without a checksum the estimate for noise is not divided by 65,535. With [`CCITT`] and 16 bytes 193 of 100,000 packets of noise
+/// Without a checksum the estimate for noise is not divided by 32,768. With [`CCITT`] and 16 bytes 193 of 100,000 packets of noise
 /// were repaired at N = 1, and 8,068 at N = 2; and 1 in 2^n is even said to be intact. With four flips, at N = 2, 3,272 of 20,000 were
 /// falsely repaired in 16 bytes (24 of 100,000 with a checksum) and 940 of 20,000 in 64 (288 of 100,000); with three, at N = 1, 740 of
 /// 100,000 in 16 bytes and 1,212 of 10,000 in 512. Take N = 1 there.
@@ -181,7 +184,8 @@ pub enum Refusal {
     Output = 8,
     /// 9: the range ends before its start, or reaches into the CRC.
     Range = 9,
-    /// 10: the field is not whole in the range, or not an even number of bytes from its start.
+    /// 10: the field is not whole in the range, or not an even number of bytes from its start; of a repair, only where the range has
+    /// a byte.
     Field = 10,
     /// 11: the initial or the final value is 2^n or more.
     Values = 11,
@@ -459,9 +463,9 @@ pub fn sum(bytes: &[u8]) -> u16 {
     unsafe { ffi::rangqoda_sum(bytes.as_ptr(), bytes.len()) }
 }
 
-/// Stamps a packet, so that the range passes: the two bytes at `field`, an index into the packet, become what the sum of the
-/// range, taken with these two as zero, lacks to FFFFh. Refused by 1, 2, 9, 10, and so by 10 for an accepted range with start = end,
-/// which has no field.
+/// Stamps a packet, so that the sum of the range is FFFFh: the two bytes at `field`, an index into the packet, become what the sum of the
+/// range, taken with these two as zero, lacks to FFFFh. Where it lacks nothing they become FFFFh, since 0000h would say that no checksum
+/// was made. Refused by 1, 2, 9, 10, and so by 10 for an accepted range with start = end, which has no field.
 ///
 /// ```
 /// use rangqoda::{stamp, sum, Refusal, CCITT};
@@ -483,7 +487,7 @@ pub fn stamp(generator: u64, range: Range<usize>, field: usize, packet: &mut [u8
 ///
 /// The bytes come from a 32-bit state, the seed to begin with. Each step goes from a state s to (1664525 s + 1013904223) mod 2^32,
 /// and the top eight bits of that are the next byte, from the first one on. Returned is the state after as many steps as the
-/// packet has bytes. A repair of the packet by the same CRC and range says [`Verdict::Intact`].
+/// packet has bytes. A repair of the packet by the same CRC, range and field says [`Verdict::Intact`].
 ///
 /// For more packets pass the state as the next seed. Seeds that follow each other are a poor choice for trials: most give the
 /// same first byte as their neighbours, and later bytes at fixed distances from theirs, give or take 1.
@@ -676,26 +680,32 @@ pub fn page(
     Ok(Page { used, written, next })
 }
 
-/// Repairs a packet whose range carries a checksum, or which carries none ([`NO_CHECKSUM`]). `output` is as long as the packet;
-/// it changes only for [`Verdict::Repaired`], when it holds the flipped packet. Refused by 1, 2, 11, 3, 5, 6, 8, 9, in this order.
+/// Repairs a packet whose range carries a checksum at `field`, or which carries none ([`NO_CHECKSUM`]; then `field` may be any
+/// number). `output` is as long as the packet; it changes only for [`Verdict::Repaired`], when it holds the flipped packet. Refused by
+/// 1, 2, 11, 3, 5, 6, 8, 9, 10, in this order.
+///
+/// A field of 0000h says that no checksum was made (RFC 768). A packet with such a field passes the second check without a sum, as it was
+/// received or as a pattern's flips make it. Of packets sent so the CRC alone strikes wrong patterns that leave the field zero: take N = 1
+/// for them.
 ///
 /// ```
 /// use rangqoda::{repair, Crc, Pattern, Tables, Verdict, FIVE, NO_CHECKSUM};
 ///
 /// let tables = Tables::new(FIVE)?;
 /// let mut output = [0; 3];
-/// let verdict = repair(Crc::plain(FIVE), 0..2, 1, tables.as_slices(), &[0x7F, 0xFF, 0x05], &mut output)?;
+/// let verdict = repair(Crc::plain(FIVE), 0..2, 0, 1, tables.as_slices(), &[0x7F, 0xFF, 0x05], &mut output)?;
 /// assert_eq!(verdict, Verdict::Repaired(Pattern::new(&[23]).unwrap()));
 /// assert_eq!(output, [0xFF, 0xFF, 0x05]);
 ///
 /// // Of these two patterns the checksum struck one; without a checksum both are left.
-/// let verdict = repair(Crc::plain(FIVE), NO_CHECKSUM, 1, tables.as_slices(), &[0x7F, 0xFF, 0x05], &mut output)?;
+/// let verdict = repair(Crc::plain(FIVE), NO_CHECKSUM, 0, 1, tables.as_slices(), &[0x7F, 0xFF, 0x05], &mut output)?;
 /// assert_eq!(verdict, Verdict::Several { count: 2, pattern: Pattern::new(&[8]).unwrap() });
 /// # Ok::<(), rangqoda::Refusal>(())
 /// ```
 pub fn repair(
     crc: Crc,
     range: Range<usize>,
+    field: usize,
     limit: usize,
     tables: TableSlices<'_>,
     packet: &[u8],
@@ -710,6 +720,7 @@ pub fn repair(
             crc.xorout,
             range.start,
             range.end,
+            field,
             limit,
             tables.step.as_ptr(),
             tables.step.len(),
@@ -798,11 +809,12 @@ impl Tables {
         &self,
         crc: Crc,
         range: Range<usize>,
+        field: usize,
         limit: usize,
         packet: &[u8],
         output: &mut [u8],
     ) -> Result<Verdict, Refusal> {
-        repair(crc, range, limit, self.as_slices(), packet, output)
+        repair(crc, range, field, limit, self.as_slices(), packet, output)
     }
 
     /// Every pattern of a list, in its order. Refused by 2, 3, 4.

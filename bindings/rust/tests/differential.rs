@@ -99,6 +99,7 @@ fn compare_repair(call: &RepairCall<'_>, before: &RepairLent) -> reference::Answ
         crc: call.crc,
         start: call.start,
         end: call.end,
+        field: call.field,
         limit: call.limit,
         step: call.step,
         first: call.first,
@@ -516,7 +517,7 @@ fn any_place(random: &mut Random, len: usize) -> (usize, usize, usize) {
 }
 
 #[test]
-fn stamp_makes_the_range_pass() {
+fn a_stamped_range_has_the_sum_ffff() {
     let mut random = Random::new(4);
     let mut refused = [0; 11];
     for _ in 0..40_000 {
@@ -535,6 +536,29 @@ fn stamp_makes_the_range_pass() {
     }
     for number in [0, 1, 2, 9, 10] {
         assert!(refused[number] > 100, "{refused:?}");
+    }
+}
+
+/// Another word of the range first makes the sum FFFFh, with zeros in the field: what is then computed for the field is 0.
+#[test]
+fn a_computed_zero_is_written_as_ffff() {
+    let mut random = Random::new(29);
+    for _ in 0..4_000 {
+        let generator = random.known_generator();
+        let n = reference::degree(generator);
+        let len = random.within(n.div_ceil(8) + 4, 40);
+        let end = (8 * len - n) / 8;
+        let start = random.within(0, end - 4);
+        let words = (end - start) / 2;
+        let (field, other) = (random.within(0, words - 1), random.within(0, words - 2));
+        let (field, other) = (start + 2 * field, start + 2 * (other + usize::from(other >= field)));
+        let mut packet = random.bytes(len);
+        packet[field..field + 2].fill(0);
+        reference::stamp(generator, start, end, other, &mut packet).unwrap();
+        let mut stamped = packet.clone();
+        stamped[field..field + 2].fill(0xFF);
+        assert_eq!(common::stamp(generator, start, end, field, &packet), (0, stamped.clone()));
+        assert_eq!(common::sum(&stamped[start..end]), 0xFFFF);
     }
 }
 
@@ -601,6 +625,26 @@ fn fit_place(random: &mut Random, len: usize, n: usize) -> (usize, usize, usize)
     (start, end, start + 2 * random.within(0, (end - start - 2) / 2))
 }
 
+/// A place that no field of the range has.
+fn unfit_field(random: &mut Random, start: usize, end: usize) -> usize {
+    let huge = random.pick(&HUGE);
+    random.pick(&[start + 1, end - 1, end, end + 1, start.wrapping_sub(2), huge])
+}
+
+/// A range that ends behind the last accepted end, or before its start.
+fn unfit_range(random: &mut Random, start: usize, end: usize, last: usize) -> (usize, usize) {
+    let (past, huge) = (last + 1, random.pick(&HUGE));
+    random.pick(&[
+        (start, past),
+        (past, past),
+        (start, past + 1),
+        (start, huge),
+        (huge, huge),
+        (end + 1, start),
+        (huge, end),
+    ])
+}
+
 #[test]
 fn make_refuses_by_the_first_that_applies() {
     let mut random = Random::new(23);
@@ -614,17 +658,13 @@ fn make_refuses_by_the_first_that_applies() {
             let room = random.within(n.div_ceil(8) + 2, 40);
             let (mut start, mut end, mut field) = fit_place(&mut random, room, n);
             if broken.has(10) {
-                let huge = random.pick(&HUGE);
-                field = random.pick(&[start + 1, end - 1, end, end + 1, start.wrapping_sub(2), huge]);
+                field = unfit_field(&mut random, start, end);
                 if random.once_in(4) {
                     (end, field) = (start, random.within(0, room)); // an empty range has no room for a field
                 }
             }
             if broken.has(9) {
-                let huge = random.pick(&HUGE);
-                let past = (8 * room - n) / 8 + 1;
-                let reaching = [(start, past), (past, past), (start, room), (start, huge), (huge, huge)];
-                (start, end) = random.pick(&[&reaching[..], &[(end + 1, start), (huge, end)]].concat());
+                (start, end) = unfit_range(&mut random, start, end, (8 * room - n) / 8);
             }
             let len = if broken.has(2) { random.pick(&[0, n / 8, 513, 600]) } else { room };
             if broken.has(11) {
@@ -657,7 +697,7 @@ fn every_packet_made_is_intact() {
         let (step, first) = (&tables.step[..], &tables.first[..]);
         let lent = RepairLent { output: random.bytes(len), verdict: random.bytes(VERDICT_BYTES) };
         for limit in 1..=4 {
-            let repair = RepairCall { crc, start, end, limit, step, first, packet: &packet };
+            let repair = RepairCall { crc, start, end, field, limit, step, first, packet: &packet };
             let intact = RepairLent { output: lent.output.clone(), verdict: verdict_bytes(0, 0, &[]) };
             assert_eq!(common::repair(&repair, &lent), (0, intact), "{call:?} {len} {limit}");
         }
@@ -917,11 +957,12 @@ fn pages_joined_are_the_list() {
 
 // ---- repair
 
-/// A packet with its range and what was sent, damaged in some bits.
+/// A packet with its range and field and what was sent, damaged in some bits.
 struct Received {
     crc: Crc,
     start: usize,
     end: usize,
+    field: usize,
     limit: usize,
     packet: Vec<u8>,
     sent: Vec<u8>,
@@ -933,23 +974,24 @@ fn some_received(random: &mut Random, most: u64) -> Received {
     let crc = random.values(generator);
     let n = reference::degree(generator);
     let limit = random.within(1, 4);
-    let least = (n + 8).div_ceil(8); // a byte of range and the CRC
+    let least = (n + 16).div_ceil(8); // a field and the CRC
     let bits = some_length(random, 8 * least, limit, most);
     let len = bits / 8;
-    let most_end = (8 * len - n) / 8;
-    let end = random.within(1, most_end);
-    // one in four carries no checksum
-    let start = if random.once_in(4) { end } else { random.within(0, end - 1) };
+    let (mut start, end, mut field) = fit_place(random, len, n);
     let mut sent = random.packet(len);
-    if end - start >= 2 {
-        let field = start + 2 * random.within(0, (end - start - 2) / 2);
+    // one in four carries no checksum, and of one in four none was made
+    if random.once_in(4) {
+        (start, field) = (end, random.pick(&HUGE));
+    } else if random.once_in(3) {
+        sent[field..field + 2].fill(0);
+    } else {
         reference::stamp(generator, start, end, field, &mut sent).unwrap();
     }
     reference::seal(crc, &mut sent).unwrap();
     let flips = random.within(0, limit + 1);
     let pattern = random.positions(flips, 8 * len);
     let packet = reference::flipped(&sent, &pattern);
-    Received { crc, start, end, limit, packet, sent, flips: pattern.len() }
+    Received { crc, start, end, field, limit, packet, sent, flips: pattern.len() }
 }
 
 #[test]
@@ -963,6 +1005,7 @@ fn repair_gives_the_verdict() {
             crc: received.crc,
             start: received.start,
             end: received.end,
+            field: received.field,
             limit: received.limit,
             step: &tables.step,
             first: &tables.first,
@@ -976,8 +1019,8 @@ fn repair_gives_the_verdict() {
             Verdict::Several(..) => 2,
             Verdict::None => 3,
         }] += 1;
-        let sent_passes = reference::passes(&received.sent, received.start, received.end);
-        if sent_passes && received.flips <= received.limit {
+        assert!(reference::passes(&received.sent, received.start, received.end, received.field));
+        if received.flips <= received.limit {
             assert_ne!(verdict, Verdict::None, "the packet sent is within the limit");
             if let Verdict::Repaired(pattern) = verdict {
                 assert_eq!(reference::flipped(&received.packet, &pattern), received.sent);
@@ -1007,11 +1050,12 @@ fn repair_of_long_packets() {
             let (start, end) = (random.within(0, 3), (8 * len - n) / 8 - random.within(0, 1));
             let mut sent = random.bytes(len);
             let crc = random.values(generator);
-            reference::stamp(generator, start, end, start + 2, &mut sent).unwrap();
+            let field = start + 2;
+            reference::stamp(generator, start, end, field, &mut sent).unwrap();
             reference::seal(crc, &mut sent).unwrap();
             let packet = reference::flipped(&sent, &random.positions(flips, 8 * len));
             let (step, first) = (&tables.step[..], &tables.first[..]);
-            let call = RepairCall { crc, start, end, limit, step, first, packet: &packet };
+            let call = RepairCall { crc, start, end, field, limit, step, first, packet: &packet };
             let lent = RepairLent { output: random.bytes(len), verdict: random.bytes(VERDICT_BYTES) };
             let verdict = compare_repair(&call, &lent).unwrap();
             assert_ne!(verdict, Verdict::None);
@@ -1031,8 +1075,10 @@ fn repair_of_any_bytes() {
         let tables = reference::tables_of(generator);
         let end = random.within(0, len + 1);
         let start = random.within(0, end);
+        let field = start + 2 * random.within(0, 2);
         let crc = random.values(generator);
-        let call = RepairCall { crc, start, end, limit, step: &tables.step, first: &tables.first, packet: &packet };
+        let (step, first) = (&tables.step[..], &tables.first[..]);
+        let call = RepairCall { crc, start, end, field, limit, step, first, packet: &packet };
         let lent = RepairLent { output: random.bytes(len), verdict: random.bytes(VERDICT_BYTES) };
         let _ = compare_repair(&call, &lent);
     }
@@ -1060,9 +1106,9 @@ fn several_names_the_earliest() {
             .collect();
         listed.sort_by_key(|set| (set.len(), set.clone()));
         let passing: Vec<&Vec<u16>> =
-            listed.iter().filter(|set| reference::passes(&reference::flipped(&packet, set), 0, end)).collect();
+            listed.iter().filter(|set| reference::passes(&reference::flipped(&packet, set), 0, end, 0)).collect();
         let tables = rangqoda::Tables::new(generator).unwrap();
-        let verdict = tables.repair(crc, 0..end, limit, &packet, &mut [0; 3]).unwrap();
+        let verdict = tables.repair(crc, 0..end, 0, limit, &packet, &mut [0; 3]).unwrap();
         if passing.len() < 2 || passing[0].is_empty() {
             assert!(!matches!(verdict, rangqoda::Verdict::Several { .. }));
             continue;
@@ -1078,8 +1124,74 @@ fn several_names_the_earliest() {
     assert!(others.iter().all(|&times| times > 20), "{others:?}");
 }
 
+/// Every set of at most so many positions: small ones first, and those of one size by their smallest positions.
+fn every_set(most: usize, bits: u16) -> Vec<Vec<u16>> {
+    let mut sets = vec![vec![]];
+    let mut begin = 0;
+    for _ in 0..most {
+        let end = sets.len();
+        for at in begin..end {
+            let above = sets[at].last().map_or(0, |p| p + 1);
+            sets.extend((above..bits).map(|p| [&sets[at][..], &[p]].concat()).collect::<Vec<_>>());
+        }
+        begin = end;
+    }
+    sets
+}
+
+/// Fields that are zero, or that flips make zero, by brute force: every set of flips is made, and both checks are taken of the packet
+/// that it makes. Often the sum alone, or the field as it was received, would say something else.
+#[test]
+fn fields_are_looked_at_after_the_flips() {
+    let mut random = Random::new(28);
+    let (mut summed, mut received) = (0, 0);
+    for round in 0..600 {
+        let generator = [9, 53, 0x107][round % 3];
+        let (len, start, end, field) =
+            random.pick(&[(4, 0, 2, 0), (4, 1, 3, 1), (4, 0, 3, 0), (5, 0, 4, 2), (5, 1, 4, 1), (6, 0, 5, 2)]);
+        let (crc, limit, ones) = (random.values(generator), random.within(1, 3), random.within(0, 3));
+        let mut packet = random.bytes(len);
+        packet[field..field + 2].fill(0);
+        if random.once_in(2) {
+            reference::seal(crc, &mut packet).unwrap();
+        }
+        let lowest = 8 * (len - field - 2) as u16;
+        let inside: Vec<u16> = random.positions(ones, 16).iter().map(|p| p + lowest).collect();
+        let packet = reference::flipped(&packet, &inside);
+        let list: Vec<(Vec<u16>, Vec<u8>)> = every_set(limit, 8 * len as u16)
+            .into_iter()
+            .map(|set| (set.clone(), reference::flipped(&packet, &set)))
+            .filter(|(_, flipped)| reference::remainder(crc, flipped) == Ok(0))
+            .collect();
+        let zero = |packet: &[u8]| packet[field..field + 2] == [0, 0];
+        let sum = |packet: &[u8]| reference::sum(&packet[start..end]) == 0xFFFF;
+        let told = |passes: &dyn Fn(&[u8]) -> bool| {
+            if reference::remainder(crc, &packet) == Ok(0) && passes(&packet) {
+                return (true, 0, None);
+            }
+            let passing: Vec<&Vec<u16>> = list.iter().filter(|(_, to)| passes(to)).map(|(set, _)| set).collect();
+            (false, passing.len() as u64, passing.first().map(|set| set.to_vec()))
+        };
+        let expected = told(&|packet| zero(packet) || sum(packet));
+        let tables = rangqoda::Tables::new(generator).unwrap();
+        let mut copy = vec![0xEE; len];
+        let verdict = match tables.repair(crc, start..end, field, limit, &packet, &mut copy).unwrap() {
+            rangqoda::Verdict::Intact => (true, 0, None),
+            rangqoda::Verdict::Repaired(pattern) => (false, 1, Some(pattern.as_slice().to_vec())),
+            rangqoda::Verdict::Several { count, pattern } => (false, count, Some(pattern.as_slice().to_vec())),
+            rangqoda::Verdict::None => (false, 0, None),
+        };
+        assert_eq!(verdict, expected, "{crc:?} {start} {end} {field} {limit} {packet:?}");
+        let left = if verdict.1 == 1 { reference::flipped(&packet, &verdict.2.unwrap()) } else { vec![0xEE; len] };
+        assert_eq!(copy, left);
+        summed += usize::from(told(&sum) != expected);
+        received += usize::from(told(&|other| zero(&packet) || sum(other)) != expected);
+    }
+    assert!(summed > 100 && received > 100, "{summed} {received}");
+}
+
 /// Packets that carry no checksum, at every place for the range and in every damage of up to two bits: by the remainder and the
-/// list alone, the same wherever the range stands. Stamp and maker have no field there.
+/// list alone, the same wherever the range stands and whatever is given for the field. Stamp and maker have no field there.
 #[test]
 fn no_checksum_at_every_place() {
     let mut random = Random::new(25);
@@ -1106,7 +1218,7 @@ fn no_checksum_at_every_place() {
             let packet = reference::flipped(&sent, &pattern);
             let limit = random.within(1, most);
             let lent = RepairLent { output: random.bytes(len), verdict: random.bytes(VERDICT_BYTES) };
-            let call = RepairCall { crc, start: 0, end: 0, limit, step, first, packet: &packet };
+            let call = RepairCall { crc, start: 0, end: 0, field: 0, limit, step, first, packet: &packet };
             let answer = compare_repair(&call, &lent);
             let told = common::repair(&call, &lent);
             let syndrome = reference::remainder(crc, &packet).unwrap();
@@ -1126,7 +1238,8 @@ fn no_checksum_at_every_place() {
                 }
             }
             for place in 1..len + 2 {
-                let found = common::repair(&RepairCall { start: place, end: place, ..call.clone() }, &lent);
+                let field = random.pick(&[0, place, len - 2, len, usize::MAX]);
+                let found = common::repair(&RepairCall { start: place, end: place, field, ..call.clone() }, &lent);
                 let expected = if 8 * place <= 8 * len - n { told.clone() } else { (9, lent.clone()) };
                 assert_eq!(found, expected, "{crc:?} {place}");
             }
@@ -1331,7 +1444,7 @@ fn page_refuses_by_the_first_that_applies() {
 #[test]
 fn repair_refuses_by_the_first_that_applies() {
     let mut random = Random::new(17);
-    let order = [1, 2, 11, 3, 5, 6, 8, 9];
+    let order = [1, 2, 11, 3, 5, 6, 8, 9, 10];
     for broken in Broken::subsets(&order) {
         for _ in 0..24 {
             let degree = random.within(3, 8) as u32;
@@ -1339,25 +1452,19 @@ fn repair_refuses_by_the_first_that_applies() {
             let n = degree as usize;
             let tables = reference::tables_of(generator);
             let limit = random.within(1, 2);
-            let len = if broken.has(2) { random.pick(&[0, n / 8, 513, 514, 1000]) } else { random.within(3, 24) };
+            let room = random.within(3, 24);
+            let len = if broken.has(2) { random.pick(&[0, n / 8, 513, 514, 1000]) } else { room };
             let packet = random.packet(len);
-            let most_end = (8 * len).saturating_sub(n) / 8;
-            let (start, end) = if broken.has(9) {
-                let huge = random.pick(&HUGE);
-                let start = random.within(0, most_end);
-                random.pick(&[
-                    (0, most_end + 1),
-                    (most_end + 1, most_end + 1),
-                    (start + 1, start),
-                    (0, len),
-                    (start, huge),
-                    (huge, most_end),
-                    (huge, huge),
-                ])
-            } else {
-                let end = random.within(0, most_end);
-                (random.within(0, end), end)
-            };
+            let (mut start, mut end, mut field) = fit_place(&mut random, room, n);
+            if broken.has(10) {
+                field = unfit_field(&mut random, start, end);
+            } else if random.once_in(4) {
+                // an empty range, with any number for the field
+                (start, field) = (end, unfit_field(&mut random, start, end));
+            }
+            if broken.has(9) {
+                (start, end) = unfit_range(&mut random, start, end, (8 * room - n) / 8);
+            }
             let (mut step, mut first) = if broken.has(6) {
                 spoiled(&mut random, generator, &tables)
             } else {
@@ -1383,6 +1490,7 @@ fn repair_refuses_by_the_first_that_applies() {
                 crc,
                 start,
                 end,
+                field,
                 limit: if broken.has(3) { unfit_limit(&mut random) } else { limit },
                 step: &step,
                 first: &first,
@@ -1455,11 +1563,13 @@ fn huge_numbers_are_refused() {
         assert_eq!(compare_page(&PageCall { generator: huge as u64, ..call.clone() }, &lent), 1);
 
         let crc = Crc::plain(rangqoda::CCITT);
-        let call = RepairCall { crc, start: 0, end: 14, limit: 1, step, first, packet: &packet };
+        let call = RepairCall { crc, start: 0, end: 14, field: 4, limit: 1, step, first, packet: &packet };
         let lent = RepairLent { output: vec![0; 16], verdict: vec![0; VERDICT_BYTES] };
         assert_eq!(compare_repair(&RepairCall { start: huge, ..call.clone() }, &lent), Err(9));
         assert_eq!(compare_repair(&RepairCall { end: huge, ..call.clone() }, &lent), Err(9));
         assert_eq!(compare_repair(&RepairCall { start: huge, end: huge, ..call.clone() }, &lent), Err(9));
+        assert_eq!(compare_repair(&RepairCall { field: huge, ..call.clone() }, &lent), Err(10));
+        assert!(compare_repair(&RepairCall { start: 3, end: 3, field: huge, ..call.clone() }, &lent).is_ok());
         assert_eq!(compare_repair(&RepairCall { limit: huge, ..call.clone() }, &lent), Err(3));
         for (generator, init, xorout, number) in
             [(huge as u64, 0, 0, 1), (0x11021, huge as u64, 0, 11), (0x11021, 0, huge as u64, 11)]
@@ -1514,12 +1624,14 @@ fn the_wrapper_repairs_and_hands_back() {
         let tables = rangqoda::Tables::new(received.crc.generator).unwrap();
         let range = received.start..received.end;
         let mut copy = vec![0xEE; received.packet.len()];
-        let verdict = tables.repair(received.crc, range, received.limit, &received.packet, &mut copy).unwrap();
+        let verdict =
+            tables.repair(received.crc, range, received.field, received.limit, &received.packet, &mut copy).unwrap();
         let handed = rangqoda::hand_back(&received.packet, &copy, &verdict);
         let of = reference::RepairOf {
             crc: received.crc,
             start: received.start,
             end: received.end,
+            field: received.field,
             limit: received.limit,
             step: tables.as_slices().step,
             first: tables.as_slices().first,
@@ -1574,8 +1686,8 @@ fn the_wrapper_passes_refusals_on() {
     let (wide, five) = (Crc { generator: FIVE, init: 0, xorout: 32 }, Crc::plain(FIVE));
     assert_eq!(rangqoda::remainder(wide, &[0; 2]), Err(Refusal::Values));
     assert_eq!(rangqoda::seal(wide, &mut [0; 2]), Err(Refusal::Values));
-    assert_eq!(tables.repair(wide, 0..2, 0, &[0; 3], &mut output[..3]), Err(Refusal::Values));
-    assert_eq!(tables.repair(Crc::plain(CCITT), 0..1, 1, &[0; 3], &mut output[..3]), Err(Refusal::TableLength));
+    assert_eq!(tables.repair(wide, 0..2, 0, 0, &[0; 3], &mut output[..3]), Err(Refusal::Values));
+    assert_eq!(tables.repair(Crc::plain(CCITT), 0..1, 0, 1, &[0; 3], &mut output[..3]), Err(Refusal::TableLength));
     assert_eq!(tables.page(5, 2, 3, Mark::Start, &mut output), Err(Refusal::Length));
     assert_eq!(tables.page(8, 5, 3, Mark::Start, &mut output), Err(Refusal::Limit));
     assert_eq!(tables.page(8, 2, 32, Mark::Start, &mut output), Err(Refusal::Syndrome));
@@ -1587,9 +1699,11 @@ fn the_wrapper_passes_refusals_on() {
     assert_eq!(tables.page(8, 2, 3, after(&[1, 2, 3]), &mut output), Err(Refusal::Mark));
     assert_eq!(tables.page(8, 2, 3, after(&[8]), &mut output), Err(Refusal::Mark));
     assert_eq!(tables.page(8, 2, 3, Mark::Start, &mut output[..8]), Err(Refusal::Output));
-    assert_eq!(tables.repair(five, 0..2, 1, &[0; 3], &mut output), Err(Refusal::Output));
-    assert_eq!(tables.repair(five, 0..3, 1, &[0; 3], &mut output[..3]), Err(Refusal::Range));
-    assert_eq!(tables.repair(five, 3..3, 1, &[0; 3], &mut output[..3]), Err(Refusal::Range));
+    assert_eq!(tables.repair(five, 0..2, 0, 1, &[0; 3], &mut output), Err(Refusal::Output));
+    assert_eq!(tables.repair(five, 0..3, 1, 1, &[0; 3], &mut output[..3]), Err(Refusal::Range));
+    assert_eq!(tables.repair(five, 3..3, 0, 1, &[0; 3], &mut output[..3]), Err(Refusal::Range));
+    assert_eq!(tables.repair(five, 0..2, 1, 1, &[0; 3], &mut output[..3]), Err(Refusal::Field));
+    assert_eq!(tables.repair(five, 0..1, 0, 1, &[0; 3], &mut output[..3]), Err(Refusal::Field));
     assert_eq!(rangqoda::stamp(CCITT, 0..4, 1, &mut output), Err(Refusal::Field));
     assert_eq!(rangqoda::stamp(CCITT, NO_CHECKSUM, 0, &mut output), Err(Refusal::Field));
     assert_eq!(rangqoda::make(five, 7, NO_CHECKSUM, 0, &mut output), Err(Refusal::Field));

@@ -92,18 +92,18 @@ fn the_sum_of_rfc_1071() {
 fn verdicts_of_five() {
     let tables = Tables::new(FIVE).unwrap();
     let mut output = [0xAA; 3];
-    assert_eq!(tables.repair(Crc::plain(FIVE), 0..2, 1, &[0xFF, 0xFF, 0x05], &mut output), Ok(Verdict::Intact));
+    assert_eq!(tables.repair(Crc::plain(FIVE), 0..2, 0, 1, &[0xFF, 0xFF, 0x05], &mut output), Ok(Verdict::Intact));
     assert_eq!(output, [0xAA; 3]);
 
     assert_eq!(remainder(Crc::plain(FIVE), &[0xFF, 0xFF, 0x06]), Ok(3));
-    assert_eq!(tables.repair(Crc::plain(FIVE), 0..2, 1, &[0xFF, 0xFF, 0x06], &mut output), Ok(Verdict::None));
-    let several = tables.repair(Crc::plain(FIVE), 0..2, 2, &[0xFF, 0xFF, 0x06], &mut output).unwrap();
+    assert_eq!(tables.repair(Crc::plain(FIVE), 0..2, 0, 1, &[0xFF, 0xFF, 0x06], &mut output), Ok(Verdict::None));
+    let several = tables.repair(Crc::plain(FIVE), 0..2, 0, 2, &[0xFF, 0xFF, 0x06], &mut output).unwrap();
     assert_eq!(several, Verdict::Several { count: 2, pattern: pattern(&[0, 1]) });
     assert_eq!(output, [0xAA; 3]);
 
     let s = remainder(Crc::plain(FIVE), &[0x7F, 0xFF, 0x05]).unwrap();
     assert_eq!(list(FIVE, 24, 1, s), [[8], [23]]);
-    let repaired = tables.repair(Crc::plain(FIVE), 0..2, 1, &[0x7F, 0xFF, 0x05], &mut output).unwrap();
+    let repaired = tables.repair(Crc::plain(FIVE), 0..2, 0, 1, &[0x7F, 0xFF, 0x05], &mut output).unwrap();
     assert_eq!(repaired, Verdict::Repaired(pattern(&[23])));
     assert_eq!(output, [0xFF, 0xFF, 0x05]);
 }
@@ -115,9 +115,30 @@ fn verdict_of_nine() {
     let s = remainder(Crc::plain(9), &[0x7F, 0xFF, 0x02]).unwrap();
     assert_eq!(list(9, 24, 2, s)[0], [0, 2]);
     let tables = Tables::new(9).unwrap();
-    let several = tables.repair(Crc::plain(9), 0..2, 2, &[0x7F, 0xFF, 0x02], &mut output).unwrap();
+    let several = tables.repair(Crc::plain(9), 0..2, 0, 2, &[0x7F, 0xFF, 0x02], &mut output).unwrap();
     assert_eq!(several, Verdict::Several { count: 3, pattern: pattern(&[0, 23]) });
     assert_eq!(output, [0xAA; 3]);
+}
+
+/// A field of zero passes without a sum, as received or as flipped; and a computed zero is written as FFFFh.
+#[test]
+fn verdicts_of_five_with_a_zero_field() {
+    let tables = Tables::new(FIVE).unwrap();
+    let mut output = [0xAA; 3];
+    assert_eq!(tables.repair(Crc::plain(FIVE), 0..2, 0, 1, &[0, 0, 0], &mut output), Ok(Verdict::Intact));
+    assert_eq!(output, [0xAA; 3]);
+    let s = remainder(Crc::plain(FIVE), &[0x80, 0, 0]).unwrap();
+    assert_eq!(list(FIVE, 24, 1, s), [[8], [23]]);
+    let repaired = tables.repair(Crc::plain(FIVE), 0..2, 0, 1, &[0x80, 0, 0], &mut output);
+    assert_eq!(repaired, Ok(Verdict::Repaired(pattern(&[23]))));
+    assert_eq!(output, [0, 0, 0]);
+
+    for (field, expected) in [(2, [0xFF, 0xFF, 0xFF, 0xFF, 0]), (0, [0xED, 0xCB, 0x12, 0x34, 0])] {
+        let mut packet = [0xFF, 0xFF, 0x12, 0x34, 0];
+        assert_eq!(stamp(FIVE, 0..4, field, &mut packet), Ok(()));
+        assert_eq!(packet, expected);
+        assert_eq!(sum(&packet[..4]), 0xFFFF);
+    }
 }
 
 /// Packets without a second check, the first of remainder 0 with a sum that is not FFFFh.
@@ -125,7 +146,7 @@ fn verdict_of_nine() {
 fn verdicts_of_five_without_a_checksum() {
     let tables = Tables::new(FIVE).unwrap();
     let mut output = [0xAA; 3];
-    let mut verdict = |packet: &[u8]| tables.repair(Crc::plain(FIVE), NO_CHECKSUM, 1, packet, &mut output).unwrap();
+    let mut verdict = |packet: &[u8]| tables.repair(Crc::plain(FIVE), NO_CHECKSUM, 0, 1, packet, &mut output).unwrap();
     assert_eq!(sum(&[0x7F, 0xFE]), 0x7FFE);
     assert_eq!(verdict(&[0x7F, 0xFE, 0x05]), Verdict::Intact);
     assert_eq!(verdict(&[0x7F, 0xFF, 0x05]), Verdict::Several { count: 2, pattern: pattern(&[8]) });
@@ -149,6 +170,16 @@ fn packets_made_from_seed_0() {
         assert_eq!(packet[6..], crc);
         assert_eq!(state, Ok(0xA3D95FA8));
     }
+}
+
+/// For the field of these bytes zero is computed, and FFFFh written; and the packet is intact.
+#[test]
+fn a_packet_made_with_a_computed_zero() {
+    let mut packet = [0xAA; 8];
+    assert_eq!(make(Crc::plain(CCITT), 65871, 0..6, 4, &mut packet), Ok(0x8D418AD7));
+    assert_eq!(packet, [0xC3, 0x06, 0x3C, 0xF9, 0xFF, 0xFF, 0xBE, 0x42]);
+    let tables = Tables::new(CCITT).unwrap();
+    assert_eq!(tables.repair(Crc::plain(CCITT), 0..6, 4, 1, &packet, &mut [0; 8]), Ok(Verdict::Intact));
 }
 
 /// The first states after 0, written out (`docs/DECISIONS.md` says where they are from): from each the later ones follow.
@@ -233,7 +264,7 @@ fn the_small_inputs_of_the_refusals() {
     wrong[1] = 0;
     let lent = TableSlices { step: &wrong, first };
     assert_eq!(page(FIVE, 8, 1, 0, lent, Mark::Start, &mut output), Err(Refusal::TableEntry));
-    assert_eq!(repair(Crc::plain(FIVE), 0..2, 1, lent, &[0; 3], &mut output[..3]), Err(Refusal::TableEntry));
+    assert_eq!(repair(Crc::plain(FIVE), 0..2, 0, 1, lent, &[0; 3], &mut output[..3]), Err(Refusal::TableEntry));
     assert_eq!(tables.page(8, 2, 0, Mark::After(pattern(&[3, 3])), &mut output), Err(Refusal::Mark));
     assert_eq!(tables.page(8, 2, 0, Mark::Start, &mut output[..8]), Err(Refusal::Output));
     assert_eq!(stamp(CCITT, 0..3, 0, &mut [0; 4]), Err(Refusal::Range));
@@ -311,7 +342,7 @@ fn remainder_0_has_more_than_the_empty_pattern() {
     }
     assert_eq!(remainder(Crc::plain(FIVE), &sent), Ok(0));
     let mut output = [0; 3];
-    let verdict = tables.repair(Crc::plain(FIVE), 0..2, 2, &sent, &mut output).unwrap();
+    let verdict = tables.repair(Crc::plain(FIVE), 0..2, 0, 2, &sent, &mut output).unwrap();
     assert_eq!((verdict, output), (Verdict::Repaired(pattern(&[8, 23])), [0xFF, 0xFF, 0x05]));
 }
 

@@ -186,7 +186,7 @@ impl TableCrc {
 pub enum Summing {
     /// The bits are flipped in a copy, and the range is summed again.
     Anew,
-    /// The range's sum is corrected by what the flipped bits weigh.
+    /// The range's sum is corrected by what the flipped bits weigh, and the field by those that fall into it.
     Corrected,
     /// There is none: every candidate passes.
     Nothing,
@@ -229,6 +229,7 @@ impl Reader {
     pub fn repair(
         &self,
         range: Range<usize>,
+        field: usize,
         limit: usize,
         packet: &[u8],
         output: &mut [u8],
@@ -237,7 +238,8 @@ impl Reader {
         let syndrome = self.crc.remainder(packet);
         let sent = total(&packet[range.clone()]);
         let mut found = Found { intact: false, passing: 0, count: 0, positions: [0; 4] };
-        if syndrome == 0 && (summing == Summing::Nothing || passes(sent)) {
+        let held = [packet[field], packet[field + 1]];
+        if syndrome == 0 && (summing == Summing::Nothing || held == [0, 0] || passes(sent)) {
             found.intact = true;
             return found;
         }
@@ -256,7 +258,7 @@ impl Reader {
             Summing::Nothing => self.lookup.patterns(syndrome.into(), 8 * packet.len(), 0..=limit, &mut note),
             Summing::Anew => self.lookup.patterns(syndrome.into(), 8 * packet.len(), 0..=limit, &mut |positions| {
                 flip(copy, positions);
-                if passes(total(&copy[range.clone()])) {
+                if copy[field..field + 2] == [0, 0] || passes(total(&copy[range.clone()])) {
                     note(positions);
                 }
                 flip(copy, positions);
@@ -270,9 +272,12 @@ impl Reader {
                         weights[8 * (last - place) + bit] = if set { -weight } else { weight };
                     }
                 }
+                let lowest = 8 * (last - field - 1) as u16;
                 self.lookup.patterns(syndrome.into(), 8 * packet.len(), 0..=limit, &mut |positions| {
+                    let inside = positions.iter().map(|position| position.wrapping_sub(lowest)).filter(|&bit| bit < 16);
+                    let field_after = inside.fold(u16::from_be_bytes(held), |left, bit| left ^ 1 << bit);
                     let change: i32 = positions.iter().map(|&position| weights[usize::from(position) % 4096]).sum();
-                    if passes(sent + i64::from(change)) {
+                    if field_after == 0 || passes(sent + i64::from(change)) {
                         note(positions);
                     }
                 })

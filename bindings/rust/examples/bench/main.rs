@@ -282,13 +282,14 @@ fn compare_repairs(
     tables: &Tables,
     reader: &Reader,
     range: Range<usize>,
+    field: usize,
     limit: usize,
     packet: &[u8],
     summing: Summing,
 ) {
     let (mut copy, mut other) = (vec![0; packet.len()], vec![0; packet.len()]);
-    let verdict = tables.repair(CRC, range.clone(), limit, packet, &mut copy).unwrap();
-    let found = reader.repair(range, limit, packet, &mut other, summing);
+    let verdict = tables.repair(CRC, range.clone(), field, limit, packet, &mut copy).unwrap();
+    let found = reader.repair(range, field, limit, packet, &mut other, summing);
     assert!(same(verdict, found) && copy == other, "{verdict:?} {found:?}");
 }
 
@@ -297,19 +298,19 @@ fn repairs(random: &mut Random, tables: &Tables, reader: &Reader, verifying: Dur
     println!("bytes  N  flipped   library  verifying tables    method     ratio  method, sums corrected     ratio");
     for (len, limit, flips, packets, rounds) in REPAIRS {
         let received = damaged(random, packets, len, flips);
-        let range = 0..len - 2;
+        let (range, field) = (0..len - 2, len - 4);
         for packet in &received {
-            compare_repairs(tables, reader, range.clone(), limit, packet, Summing::Anew);
-            compare_repairs(tables, reader, range.clone(), limit, packet, Summing::Corrected);
+            compare_repairs(tables, reader, range.clone(), field, limit, packet, Summing::Anew);
+            compare_repairs(tables, reader, range.clone(), field, limit, packet, Summing::Corrected);
         }
         let library = |packet: &[u8], output: &mut [u8]| {
-            black_box(tables.repair(CRC, range.clone(), limit, packet, output).unwrap());
+            black_box(tables.repair(CRC, range.clone(), field, limit, packet, output).unwrap());
         };
         let anew = |packet: &[u8], output: &mut [u8]| {
-            black_box(reader.repair(range.clone(), limit, packet, output, Summing::Anew));
+            black_box(reader.repair(range.clone(), field, limit, packet, output, Summing::Anew));
         };
         let corrected = |packet: &[u8], output: &mut [u8]| {
-            black_box(reader.repair(range.clone(), limit, packet, output, Summing::Corrected));
+            black_box(reader.repair(range.clone(), field, limit, packet, output, Summing::Corrected));
         };
         let times = race_repairs(rounds, &received, [&library, &anew, &corrected]);
         let rate = |time: Duration| packets as f64 / time.as_secs_f64();
@@ -333,16 +334,16 @@ fn unchecked(random: &mut Random, tables: &Tables, reader: &Reader) {
     for (len, limit, flips, packets, rounds) in REPAIRS {
         let received = damaged(random, packets, len, flips);
         for packet in &received {
-            compare_repairs(tables, reader, NO_CHECKSUM, limit, packet, Summing::Nothing);
+            compare_repairs(tables, reader, NO_CHECKSUM, 0, limit, packet, Summing::Nothing);
         }
         let library = |packet: &[u8], output: &mut [u8]| {
-            black_box(tables.repair(CRC, NO_CHECKSUM, limit, packet, output).unwrap());
+            black_box(tables.repair(CRC, NO_CHECKSUM, 0, limit, packet, output).unwrap());
         };
         let weighing = |packet: &[u8], output: &mut [u8]| {
-            black_box(tables.repair(CRC, 0..len - 2, limit, packet, output).unwrap());
+            black_box(tables.repair(CRC, 0..len - 2, len - 4, limit, packet, output).unwrap());
         };
         let method = |packet: &[u8], output: &mut [u8]| {
-            black_box(reader.repair(NO_CHECKSUM, limit, packet, output, Summing::Nothing));
+            black_box(reader.repair(NO_CHECKSUM, 0, limit, packet, output, Summing::Nothing));
         };
         let times = race_repairs(rounds, &received, [&library, &weighing, &method]);
         let rate = |time: Duration| packets as f64 / time.as_secs_f64();

@@ -213,9 +213,13 @@ pub fn sum(bytes: &[u8]) -> u16 {
     total as u16
 }
 
-/// The second check: the range has the sum FFFFh. A range that begins and ends at one place says that there is no such check.
-pub fn passes(packet: &[u8], start: usize, end: usize) -> bool {
+/// The second check: the range has the sum FFFFh, or no checksum was made, which a field of 0000h says. A range that begins and ends
+/// at one place says that there is no such check.
+pub fn passes(packet: &[u8], start: usize, end: usize, field: usize) -> bool {
     if start == end {
+        return true;
+    }
+    if packet[field] == 0 && packet[field + 1] == 0 {
         return true;
     }
     sum(&packet[start..end]) == 0xFFFF
@@ -227,7 +231,11 @@ pub fn stamp(generator: u64, start: usize, end: usize, field: usize, packet: &mu
     range_fits(start, end, packet_length(packet), n)?;
     field_fits(start, end, field)?;
     packet[field..field + 2].fill(0);
-    let value = 0xFFFF - sum(&packet[start..end]);
+    // a computed zero is sent as FFFFh
+    let value = match 0xFFFF - sum(&packet[start..end]) {
+        0 => 0xFFFF,
+        computed => computed,
+    };
     packet[field] = (value / 256) as u8;
     packet[field + 1] = (value % 256) as u8;
     Ok(())
@@ -426,6 +434,7 @@ pub struct RepairOf<'a> {
     pub crc: Crc,
     pub start: usize,
     pub end: usize,
+    pub field: usize,
     pub limit: usize,
     pub step: &'a [u16],
     pub first: &'a [u16],
@@ -443,14 +452,17 @@ pub fn repair(of: &RepairOf<'_>, output: &mut [u8]) -> Answer<Verdict> {
         return Err(8);
     }
     range_fits(of.start, of.end, packet_length(of.packet), n)?;
+    if of.start < of.end {
+        field_fits(of.start, of.end, of.field)?;
+    }
 
     let syndrome = divide(read(bits(of.packet), of.crc), of.crc.generator);
-    if syndrome == 0 && passes(of.packet, of.start, of.end) {
+    if syndrome == 0 && passes(of.packet, of.start, of.end, of.field) {
         return Ok(Verdict::Intact);
     }
     let passing: Vec<Pattern> = list(of.crc.generator, 8 * of.packet.len(), of.limit, syndrome)
         .iter()
-        .filter(|pattern| passes(&flipped(of.packet, pattern), of.start, of.end))
+        .filter(|pattern| passes(&flipped(of.packet, pattern), of.start, of.end, of.field))
         .cloned()
         .collect();
     Ok(match &passing[..] {
