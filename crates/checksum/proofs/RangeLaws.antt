@@ -55,6 +55,10 @@ pub sum-decides : (k : Check) (s : List ℕ) → k .from ≢ k .to → fieldOf (
 unfolding passes
 sum-decides k s h m = simp (ne-eqb _ _ h, ne-eqb _ _ m)
 
+pub passes-total : (k : Check) (s : List ℕ) → k .from ≢ k .to → fieldOf (k .field) s ≢ 0 → Bytes s
+    → passes k s ≡ multiple (total (range (k .from) (k .to) s))
+passes-total k s h m b = sum-decides k s h m ∙ sum-multiple (range (k .from) (k .to) s) (range-bytes (k .from) (k .to) s b)
+
 -- packets of one range and one field pass alike
 pub passes-alike : (k : Check) (s t : List ℕ) → (k .from ≢ k .to → fieldOf (k .field) s ≡ fieldOf (k .field) t) → range (k .from) (k .to) s ≡ range (k .from) (k .to) t
     → passes k s ≡ passes k t
@@ -62,10 +66,6 @@ unfolding passes
 passes-alike k s t f r =
     by-test (eqb (k .from) (k .to)) (λ e. rw e refl)
     (λ e. ap₂ (λ (x : ℕ) (l : List ℕ). eqb (k .from) (k .to) || eqb x 0 || eqb (sumOf l) 65535) (f (eqb-false _ _ e)) r)
-
-pub passes-total : (k : Check) (s : List ℕ) → k .from ≢ k .to → fieldOf (k .field) s ≢ 0 → Bytes s
-    → passes k s ≡ multiple (total (range (k .from) (k .to) s))
-passes-total k s h m b = sum-decides k s h m ∙ sum-multiple (range (k .from) (k .to) s) (range-bytes (k .from) (k .to) s b)
 
 pub range-length : (a e : ℕ) (s : List ℕ) → e ≤ length s → length (range a e s) ≡ e - a
 unfolding range
