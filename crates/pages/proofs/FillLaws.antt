@@ -26,10 +26,10 @@ pub record Filling (l m : ℕ) (xs rest : List (List ℕ)) (out pos cur : List �
   pub done : List (List ℕ)
   pub left : List (List ℕ)
   pub split : rest ≡ done ++ left
-  pub told : Told l m xs left ahead pos
+  pub told : Told before l m xs left ahead pos
   pub taken : used ≡ length (records done)
   pub count : written ≡ length done
-  pub bytes : cur ≡ records done ++ drop (length (records done)) out
+  pub content : cur ≡ records done ++ drop (length (records done)) out
   pub room : used ≤ length out
   pub small : written ≤ used
   pub named : positions last ≡ lastOf [] done
@@ -44,21 +44,21 @@ last-snoc p (x ∷ xs) q = last-snoc x xs q
 
 -- nothing done yet
 pub filling-none : (l : ℕ) (xs : List (List ℕ)) (out pos : List ℕ) (r : Found) (last : Pattern) → FoundFits l r pos → positions last ≡ []
-    → Filling l (length pos) xs (aheadOf xs r pos) out pos out r last 0 0
+    → Filling l (length pos) xs (aheadOf before xs r pos) out pos out r last 0 0
 unfolding records lastOf
 filling-none l xs out pos r last h e =
     record {
       done = [];
-      left = aheadOf xs r pos;
+      left = aheadOf before xs r pos;
       split = refl;
-      told = told-ahead-of l (length pos) xs r pos h refl;
+      told = told-ahead-of before l (length pos) xs r pos h refl;
       taken = refl;
       count = refl;
-      bytes = refl;
+      content = refl;
       room = omega arith;
       small = omega arith;
       named = e;
-      fits = sym (ap (λ (i : ℕ). fitting i (aheadOf xs r pos)) (sub-zero (length out)));
+      fits = sym (ap (λ (i : ℕ). fitting i (aheadOf before xs r pos)) (sub-zero (length out)));
       placed = refl;
       long = refl;
     }
@@ -90,10 +90,10 @@ module _ {l m : ℕ} {xs rest : List (List ℕ)} {out pos cur : List ℕ} {ahead
       page-done rest (f .done) out used written ended (all-done e) (f .taken) (f .count) (next-ended rest (f .done) (ap length (sym whole)))
 
   pub filled-bytes : ahead ≡ Nothing → cur ≡ pageBytes rest out
-  filled-bytes e = bytes-done rest (f .done) out cur (all-done e) (f .bytes)
+  filled-bytes e = bytes-done rest (f .done) out cur (all-done e) (f .content)
 
   module _ {k : ℕ} (e : ahead ≡ At k) where
-    found : Told l m xs (f .left) (At k) pos
+    found : Told before l m xs (f .left) (At k) pos
     found = rw e at (f .told)
 
     pub found-within : (k ≤ length pos) × Ascending l 0 (take k pos)
@@ -115,14 +115,14 @@ module _ {l m : ℕ} {xs rest : List (List ℕ)} {out pos cur : List ℕ} {ahead
         (next-after rest (f .done) more ∙ ap after (sym (f .named)))
 
     pub stopped-bytes : length out - used < 1 + 2 * k → cur ≡ pageBytes rest out
-    stopped-bytes h = bytes-done rest (f .done) out cur (off-done h) (f .bytes)
+    stopped-bytes h = bytes-done rest (f .done) out cur (off-done h) (f .content)
 
     pub fits-room : 1 + 2 * k ≤ length out - used → used + (1 + 2 * length (take k pos)) ≤ length cur
     fits-room h = rw (length-take-le k pos (found-within .0)) (omega (arith, f .long, f .room))
 
     -- one pattern more
     pub filling-more : 1 + 2 * k ≤ length out - used → m ≤ mostPositions → (q : Pattern) → positions q ≡ take mostPositions (take k pos)
-        → (next : ℕ) (cur' pos' : List ℕ) → RecordPut (take k pos) cur used cur' next → (r : Found) → Told l m xs (sift (before (take k pos)) xs) r pos'
+        → (next : ℕ) (cur' pos' : List ℕ) → RecordPut (take k pos) cur used cur' next → (r : Found) → Told before l m xs (sift (before (take k pos)) xs) r pos'
         → length pos' ≡ m → length cur' ≡ length out → Filling l m xs rest out pos' cur' r q next (written + 1)
     filling-more h four q named next cur' pos' put r t p c =
         let d : List (List ℕ) = f .done in
@@ -135,7 +135,7 @@ module _ {l m : ℕ} {xs rest : List (List ℕ)} {out pos cur : List ℕ} {ahead
           told = t;
           taken = behind;
           count = simp length-append (omega (arith, f .count));
-          bytes = put .bytes ∙ rw (f .taken) (page-put d s out cur (f .bytes));
+          content = put .content ∙ rw (f .taken) (page-put d s out cur (f .content));
           room = omega (arith, put .behind, size, f .room);
           small = omega (arith, put .behind, size, f .small);
           named = named ∙ take-all mostPositions s (rw (length-take-le k pos (found-within .0)) (omega (arith, found .1))) ∙ sym (last-snoc [] d s);

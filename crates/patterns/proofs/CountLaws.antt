@@ -9,7 +9,10 @@ use native.Mathlib.Nat.{mul-le-mul-left}
 use lib.ListN.{length, length-append}
 use lib.Dec.{eqb}
 use Rattle.patterns.specs.Listing.{syndrome, choose, upTo, listing}
+use Rattle.patterns.specs.Walk.{walk}
+use Rattle.patterns.proofs.OrderLaws.{before-strict-total}
 use Rattle.patterns.proofs.SiftLaws.{sift-length}
+use Rattle.patterns.proofs.SortedLaws.{inOrder-length}
 
 -- in how many ways k of n things can be chosen, by Pascal's rule
 unfoldable pub binomial : ℕ → ℕ → ℕ
@@ -84,6 +87,10 @@ upTo-fits l limit h k =
       binomial-bound l 5 h,
     )
 
+pub walk-fits : (n g l limit s : ℕ) → l ≤ 4096 → limit ≤ 6 → length (walk n g l limit s) < 2 ^ 64
+unfolding walk
+walk-fits n g l limit s h k = omega (arith, sift-length (λ ps. eqb (syndrome n g ps) s) (upTo l limit), upTo-fits l limit h k)
+
 pub listing-fits : (n g l limit s : ℕ) → l ≤ 4096 → limit ≤ 6 → length (listing n g l limit s) < 2 ^ 64
-unfolding listing
-listing-fits n g l limit s h k = omega (arith, sift-length (λ ps. eqb (syndrome n g ps) s) (upTo l limit), upTo-fits l limit h k)
+unfolding listing walk
+listing-fits n g l limit s h k = omega (arith, inOrder-length before-strict-total (walk n g l limit s), walk-fits n g l limit s h k)

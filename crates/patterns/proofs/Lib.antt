@@ -1,10 +1,12 @@
 pub mod OrderLaws
+pub mod CompareLaws
 pub mod MemberLaws
 pub mod SiftLaws
 pub mod SortedLaws
 pub mod FollowLaws
 pub mod ListingLaws
 pub mod CountLaws
+pub mod WalkLaws
 pub mod ParityLaws
 pub mod MarkLaws
 pub mod PageLaws

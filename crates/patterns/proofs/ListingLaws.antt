@@ -14,12 +14,12 @@ use Rattle.base.specs.Lists.{In, here, there, Ascending, ends, next}
 use Rattle.base.proofs.Cases.{by-test, by-order}
 use Rattle.base.proofs.ListLaws.{in-nothing, ascending-from}
 use Rattle.patterns.specs.Order.{before}
-use Rattle.patterns.specs.StrictOrder.{Sorted, empty, first}
-use Rattle.patterns.specs.Listing.{ascending, syndrome, choose, upTo, sift, listing}
-use Rattle.patterns.proofs.OrderLaws.{before-strict-total, fewer-before, lower-head-before, same-head-before}
+use Rattle.patterns.specs.StrictOrder.{Sorted}
+use Rattle.patterns.specs.Listing.{ascending, syndrome, choose, upTo, sift, inOrder, listing}
+use Rattle.patterns.proofs.OrderLaws.{before-strict-total}
 use Rattle.patterns.proofs.MemberLaws.{in-left, in-right, in-either, in-map, map-in}
 use Rattle.patterns.proofs.SiftLaws.{sift-in, in-sift}
-use Rattle.patterns.proofs.SortedLaws.{sorted-append, sorted-map, sorted-sift, sorted-once, sorted-same}
+use Rattle.patterns.proofs.SortedLaws.{inOrder-in, in-inOrder, inOrder-sorted, sorted-once, sorted-same}
 
 -- ---- ascending positions, as a statement and as a test ----
 
@@ -70,24 +70,6 @@ in-choose (suc room) from l e (next {p = p} {ps = ps} h k a) =
 in-choose-of : (room from l k : ℕ) → from + room ≡ l → {ps : List ℕ} → Ascending l from ps → length ps ≡ k → In ps (choose room k from)
 in-choose-of room from l k e a d = rw d at (in-choose room from l e a)
 
--- a set whose positions are all past `from` comes after one of the same count that has `from`
-head-before : (from l k : ℕ) (ps qs : List ℕ) → length ps ≡ k → Ascending l (suc from) qs → length qs ≡ suc k → before (from ∷ ps) qs ≡ true
-head-before from l k ps qs e ends d = absurd (omega arith)
-head-before from l k ps qs e (next {p = q} {ps = rs} h _ a) d = lower-head-before from q ps rs (omega arith) h
-
-pub choose-sorted : (room k from : ℕ) → Sorted before (choose room k from)
-unfolding choose
-choose-sorted room zero from = first (λ y i. absurd (in-nothing i)) empty
-choose-sorted zero (suc k) from = empty
-choose-sorted (suc room) (suc k) from =
-    sorted-append (sorted-map (λ (ps : List ℕ). from ∷ ps) (λ a b i j h. same-head-before from a b h) (choose-sorted room k (suc from)))
-    (choose-sorted room (suc k) (suc from))
-    (λ x y i j.
-    let r = map-in (λ (ps : List ℕ). from ∷ ps) (choose room k (suc from)) i in
-    let a = choose-in room k (suc from) (suc from + room) refl (r .0) (r .1) in
-    let b = choose-in room (suc k) (suc from) (suc from + room) refl y j in
-    rw (r .2) (head-before from (suc from + room) k (r .0) y (a .1) (b .0) (b .1)))
-
 -- ---- all sets of at most so many positions ----
 
 pub upTo-in : (l limit : ℕ) {ps : List ℕ} → In ps (upTo l limit) → Ascending l 0 ps × (length ps ≤ limit)
@@ -105,16 +87,6 @@ in-upTo l (suc limit) {ps} a h =
     by-order (length ps) (suc limit) (λ lt. in-left (choose l (suc limit) 0) (in-upTo l limit a (omega arith)))
     (λ ge. in-right (upTo l limit) (in-choose-of l 0 l (suc limit) (omega arith) a (omega arith)))
 
-pub upTo-sorted : (l limit : ℕ) → Sorted before (upTo l limit)
-unfolding upTo
-upTo-sorted l zero = choose-sorted l 0 0
-upTo-sorted l (suc limit) =
-    sorted-append (upTo-sorted l limit) (choose-sorted l (suc limit) 0)
-    (λ x y i j.
-    let a = upTo-in l limit i in
-    let b = choose-in l (suc limit) 0 l (omega arith) y j in
-    fewer-before x y (omega arith))
-
 -- ---- the list ----
 
 -- those of them that pass a test
@@ -125,22 +97,20 @@ module _ (P : List ℕ → Bool) (l limit : ℕ) where
   pub in-sifted : {ps : List ℕ} → Ascending l 0 ps → length ps ≤ limit → P ps ≡ true → In ps (sift P (upTo l limit))
   in-sifted a h t = in-sift P (in-upTo l limit a h) t
 
-  pub sifted-sorted : Sorted before (sift P (upTo l limit))
-  sifted-sorted = sorted-sift P (upTo-sorted l limit)
-
 module _ (n g l limit s : ℕ) where
   -- a set is listed exactly when it is one of at most so many positions below l with the syndrome
   pub listed-iff : (ps : List ℕ) → In ps (listing n g l limit s) ↔ (Ascending l 0 ps × (length ps ≤ limit) × (syndrome n g ps ≡ s))
   unfolding listing
-  listed-iff ps = (
-    λ h. let r = sifted-in (λ qs. eqb (syndrome n g qs) s) l limit h in (r .0, r .1, eqb-true _ _ (r .2)),
-    λ h. in-sifted (λ qs. eqb (syndrome n g qs) s) l limit (h .0) (h .1) (eq-eqb _ _ (h .2)),
-  )
+  listed-iff ps =
+      let P : List ℕ → Bool = λ qs. eqb (syndrome n g qs) s in (
+        λ h. let r = sifted-in P l limit (inOrder-in before-strict-total (sift P (upTo l limit)) h) in (r .0, r .1, eqb-true _ _ (r .2)),
+        λ h. in-inOrder before-strict-total (in-sifted P l limit (h .0) (h .1) (eq-eqb _ _ (h .2))),
+      )
 
   -- every listed pattern comes before every later one
   pub listing-sorted : Sorted before (listing n g l limit s)
   unfolding listing
-  listing-sorted = sifted-sorted (λ qs. eqb (syndrome n g qs) s) l limit
+  listing-sorted = inOrder-sorted before-strict-total (sift (λ qs. eqb (syndrome n g qs) s) (upTo l limit))
 
   -- nothing stands twice
   pub listed-once : (xs : List (List ℕ)) (p : List ℕ) (ys : List (List ℕ)) → listing n g l limit s ≡ xs ++ p ∷ ys → (In p xs → ⊥) × (In p ys → ⊥)

@@ -1,17 +1,19 @@
 -- Lists that ascend in an order: how they are joined, mapped and sifted, that nothing stands twice in them, that their
--- members alone decide them, and what follows a member. All for any order that is irreflexive and transitive.
+-- members alone decide them, and what follows a member. All for any order that is irreflexive and transitive. Then lists put in
+-- an order, for any strict total one.
 use mathlib.Core.Path.{_≡_, refl, sym, ap, _∙_}
 use mathlib.Core.Bool.{Bool, true, false, true≢false}
-use mathlib.Core.Logic.{⊎-elim}
+use mathlib.Core.Logic.{_⊎_, inl, inr, ⊎-elim}
 use mathlib.Core.List.{List, [], _∷_, _++_, map}
-use Prim.Native.Nat.{ℕ}
+use Prim.Native.Nat.{ℕ, suc, _≤_}
 use native.Mathlib.Omega.{arith}
+use lib.ListN.{length}
 use Rattle.base.specs.Lists.{In, here, there}
 use Rattle.base.proofs.Cases.{by-test}
-use Rattle.patterns.specs.Listing.{sift}
-use Rattle.patterns.specs.StrictOrder.{Sorted, empty, first, StrictTotal}
+use Rattle.patterns.specs.Listing.{sift, inserted, inOrder}
+use Rattle.patterns.specs.StrictOrder.{Sorted, empty, first, Trichotomy, precedes, equals, succeeds, StrictTotal}
 use Rattle.base.proofs.ListLaws.{in-nothing}
-use Rattle.patterns.proofs.MemberLaws.{in-right, in-either, map-in}
+use Rattle.patterns.proofs.MemberLaws.{in-left, in-right, in-either, map-in}
 use Rattle.patterns.proofs.SiftLaws.{sift-skip, sift-in, sift-all, sift-none, sift-append}
 
 module _ {A : Type 0} {R : A → A → Bool} where
@@ -111,3 +113,98 @@ module _ {A : Type 0} {R : A → A → Bool} (order : StrictTotal R) where
       (λ t.
       let d = rw t at e in
       rw (not-back x q (h q (sift-in P xs (rw d (here refl)) .0))) (sorted-next P up s q rest d))
+
+  -- ---- a list put in order ----
+
+  -- by how x and y compare: x in front of y, as y, or somewhere behind y
+  inserted-step : (C : List A → Type 0) (x y : A) (ys : List A) → (R x y ≡ true → C (x ∷ y ∷ ys)) → (x ≡ y → C (y ∷ ys)) → (R y x ≡ true → C (y ∷ inserted R x ys))
+      → C (inserted R x (y ∷ ys))
+  unfolding inserted
+  inserted-step C x y ys f g h =
+      elim (order .trichotomy x y) [
+        | precedes a b c ↦ rw a (f a)
+        | equals a b c ↦ rw (a, c) (g b)
+        | succeeds a b c ↦ rw (a, c) (h c)
+      ]
+
+  in-inserted : (x : A) (ys : List A) {a : A} → (a ≡ x) ⊎ In a ys → In a (inserted R x ys)
+  unfolding inserted
+  in-inserted x [] (inl e) = here e
+  in-inserted x [] (inr i) = absurd (in-nothing i)
+  in-inserted x (y ∷ ys) {a} (inl e) =
+      inserted-step (λ l. In a l) x y ys (λ t. here e) (λ d. here (e ∙ d)) (λ t. there (in-inserted x ys (inl e)))
+  in-inserted x (y ∷ ys) {a} (inr (here e)) = inserted-step (λ l. In a l) x y ys (λ t. there (here e)) (λ d. here e) (λ t. here e)
+  in-inserted x (y ∷ ys) {a} (inr (there k)) =
+      inserted-step (λ l. In a l) x y ys (λ t. there (there k)) (λ d. there k) (λ t. there (in-inserted x ys (inr k)))
+
+  -- the first of a list, or one behind it
+  first-or : {a y : A} {ys : List A} {C : Type 0} → (a ≡ y → C) → (In a ys → C) → In a (y ∷ ys) → C
+  first-or f g (here e) = f e
+  first-or f g (there i) = g i
+
+  inserted-in : (x : A) (ys : List A) {a : A} → In a (inserted R x ys) → (a ≡ x) ⊎ In a ys
+  unfolding inserted
+  inserted-in x [] i = first-or (λ e. inl e) (λ k. absurd (in-nothing k)) i
+  inserted-in x (y ∷ ys) {a} i =
+      inserted-step (λ l. In a l → (a ≡ x) ⊎ In a (y ∷ ys)) x y ys (λ t. first-or (λ e. inl e) (λ k. inr k)) (λ e j. inr j)
+      (λ t. first-or (λ e. inr (here e)) (λ k. ⊎-elim (λ e. inl e) (λ j. inr (there j)) (inserted-in x ys k))) i
+
+  inserted-sorted : (x : A) {ys : List A} → Sorted R ys → Sorted R (inserted R x ys)
+  unfolding inserted
+  inserted-sorted x empty = first (λ y i. absurd (in-nothing i)) empty
+  inserted-sorted x (first {x = y} {xs = ys} h s) =
+      inserted-step (λ l. Sorted R l) x y ys
+      (λ t. first (λ z i. first-or (λ e. rw e t) (λ k. order .transitive x y z t (h z k)) i) (first h s))
+      (λ e. first h s)
+      (λ t. first (λ z i. ⊎-elim (λ e. rw e t) (λ k. h z k) (inserted-in x ys i)) (inserted-sorted x s))
+
+  inserted-length : (x : A) (ys : List A) → length (inserted R x ys) ≤ suc (length ys)
+  unfolding inserted
+  inserted-length x [] = omega arith
+  inserted-length x (y ∷ ys) =
+      inserted-step (λ l. length l ≤ suc (suc (length ys))) x y ys (λ t. omega arith) (λ e. omega arith) (λ t. omega (arith, inserted-length x ys))
+
+  pub in-inOrder : {a : A} {xs : List A} → In a xs → In a (inOrder R xs)
+  unfolding inOrder
+  in-inOrder (here {x = x} {xs = xs} e) = in-inserted x (inOrder R xs) (inl e)
+  in-inOrder (there {x = x} {xs = xs} i) = in-inserted x (inOrder R xs) (inr (in-inOrder i))
+
+  pub inOrder-in : (xs : List A) {a : A} → In a (inOrder R xs) → In a xs
+  unfolding inOrder
+  inOrder-in [] i = absurd (in-nothing i)
+  inOrder-in (x ∷ xs) i = ⊎-elim (λ e. here e) (λ k. there (inOrder-in xs k)) (inserted-in x (inOrder R xs) i)
+
+  pub inOrder-sorted : (xs : List A) → Sorted R (inOrder R xs)
+  unfolding inOrder
+  inOrder-sorted [] = empty
+  inOrder-sorted (x ∷ xs) = inserted-sorted x (inOrder-sorted xs)
+
+  pub inOrder-length : (xs : List A) → length (inOrder R xs) ≤ length xs
+  unfolding inOrder
+  inOrder-length [] = omega arith
+  inOrder-length (x ∷ xs) = omega (arith, inserted-length x (inOrder R xs), inOrder-length xs)
+
+  -- what ascends and has the same members is the list put in order, whatever order its members came in
+  pub inOrder-only : {xs ys : List A} → Sorted R ys → ((a : A) → In a ys → In a xs) → ((a : A) → In a xs → In a ys) → ys ≡ inOrder R xs
+  inOrder-only {xs} sorted f g =
+      sorted-same sorted (inOrder-sorted xs) (λ a i. in-inOrder (f a i)) (λ a i. g a (inOrder-in xs i))
+
+  -- one more, met last
+  pub inOrder-snoc : (xs : List A) (x : A) → inserted R x (inOrder R xs) ≡ inOrder R (xs ++ x ∷ [])
+  inOrder-snoc xs x =
+      inOrder-only (inserted-sorted x (inOrder-sorted xs))
+      (λ a i. ⊎-elim (λ e. in-right xs (here e)) (λ k. in-left (x ∷ []) (inOrder-in xs k)) (inserted-in x (inOrder R xs) i))
+      (λ a i.
+      ⊎-elim (λ k. in-inserted x (inOrder R xs) (inr (in-inOrder k))) (λ k. in-inserted x (inOrder R xs) (inl (only k))) (in-either xs i))
+    where
+      only : {a x : A} → In a (x ∷ []) → a ≡ x
+      only (here e) = e
+      only (there k) = absurd (in-nothing k)
+
+  -- what does not stand there makes the list longer by one
+  pub inserted-more : (x : A) (ys : List A) → (In x ys → ⊥) → length (inserted R x ys) ≡ suc (length ys)
+  unfolding inserted
+  inserted-more x [] new = refl
+  inserted-more x (y ∷ ys) new =
+      inserted-step (λ l. length l ≡ suc (suc (length ys))) x y ys (λ t. refl) (λ e. absurd (new (here e)))
+      (λ t. ap suc (inserted-more x ys (λ i. new (there i))))

@@ -33,10 +33,19 @@ unfoldable pub sift : {A : Type 0} → (A → Bool) → List A → List A
 sift P [] = []
 sift P (x ∷ xs) = pick (P x) (x ∷ sift P xs) (sift P xs)
 
--- the list for a generator g of degree n, l bits, a limit and a syndrome s; ListingLaws has that a set is listed
--- exactly when it is ascending, below l, of at most so many positions and of this syndrome, and that the list ascends
+-- x in its place in a list that ascends in an order, once
+unfoldable pub inserted : {A : Type 0} → (A → A → Bool) → A → List A → List A
+inserted R x [] = x ∷ []
+inserted R x (y ∷ ys) = pick (R x y) (x ∷ y ∷ ys) (pick (R y x) (y ∷ inserted R x ys) (y ∷ ys))
+
+-- the members of a list, each once, in an order
+unfoldable pub inOrder : {A : Type 0} → (A → A → Bool) → List A → List A
+inOrder R [] = []
+inOrder R (x ∷ xs) = inserted R x (inOrder R xs)
+
+-- the list for a generator g of degree n, l bits, a limit and a syndrome s: of all sets those of this syndrome, in the order
 unfoldable pub listing : ℕ → ℕ → ℕ → ℕ → ℕ → List (List ℕ)
-listing n g l limit s = sift (λ ps. eqb (syndrome n g ps) s) (upTo l limit)
+listing n g l limit s = inOrder before (sift (λ ps. eqb (syndrome n g ps) s) (upTo l limit))
 
 -- condition 3: the limit is 0 or above the most positions
 unfoldable pub unfitLimit : ℕ → Bool

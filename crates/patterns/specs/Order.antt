@@ -1,16 +1,21 @@
 -- The order of patterns: small ones stand before large ones, and those of one size go by their smallest positions, the lower
 -- first, then by the next smallest, and so on.
 use Prim.Native.Nat.{ℕ}
-use mathlib.Core.Bool.{Bool, false, _||_, _&&_}
+use mathlib.Core.Bool.{Bool, true, false, _||_, _&&_}
 use mathlib.Core.List.{List, [], _∷_}
 use lib.Dec.{eqb, ltb}
 use lib.ListN.{length}
 
--- at the first place where they differ, p has the lower position
+-- first by a number of each, the smaller first, and where these are equal by another order
+unfoldable pub keyed : {A : Type 0} → (A → ℕ) → (A → A → Bool) → A → A → Bool
+keyed key rest p q = ltb (key p) (key q) || (eqb (key p) (key q) && rest p q)
+
+-- at the first place where they differ, p has the lower position, or none
 unfoldable pub lower : List ℕ → List ℕ → Bool
-lower [] q = false
+lower [] [] = false
+lower [] (b ∷ q) = true
 lower (a ∷ p) [] = false
 lower (a ∷ p) (b ∷ q) = ltb a b || (eqb a b && lower p q)
 
 unfoldable pub before : List ℕ → List ℕ → Bool
-before p q = ltb (length p) (length q) || (eqb (length p) (length q) && lower p q)
+before = keyed length lower

@@ -12,5 +12,5 @@ spreadOut ps = ps ++ replicate (mostPositions - length ps) 0
 
 -- `out` is `before` with the record of ps from the byte `at` on, and `next` is the place behind the record
 pub record RecordPut (ps before : List ℕ) (at : ℕ) (out : List ℕ) (next : ℕ) : Type 0 where
-  pub bytes : out ≡ take at before ++ recordOf ps ++ drop (at + length (recordOf ps)) before
+  pub content : out ≡ take at before ++ recordOf ps ++ drop (at + length (recordOf ps)) before
   pub behind : next ≡ at + length (recordOf ps)

@@ -6,6 +6,7 @@ ghost use Prim.Native.Nat.{_+_, _*_, _<_, _≤_};
 ghost use lib.ListN.{length, take, drop};
 ghost use Rattle.poly.specs.Fit.{Fit};
 ghost use Rattle.patterns.specs.Patterns.{mostPositions, positions, placeOf};
+ghost use Rattle.patterns.specs.Order.{lower, before};
 ghost use Rattle.patterns.specs.Listing.{ascending, unfitLimit, unfitSyndrome};
 ghost use Rattle.patterns.specs.Marks.{unfitPattern, unfitMark};
 ghost use Rattle.patterns.specs.Records.{positionsIn};
@@ -89,6 +90,48 @@ pub fn put_positions(p: Pattern, pos: &mut [u16])
         pos[i] = held[i];
         i += 1;
     }
+}
+
+// Of as many positions: has `p` the lower one at the first place where they differ?
+fn is_lower(p: &[u16], q: &[u16]) -> bool
+    requires { ⌜ length (now p) ≡ length (now q) ⌝ }
+    ensures { λ r. ⌜ r ≡ lower (now (p .entry)) (now (q .entry)) ⌝ }
+{
+    let mut i = 0;
+    while i < p.len() {
+        let a = p[i];
+        let b = q[i];
+        if a < b {
+            return true;
+        }
+        if b < a {
+            return false;
+        }
+        i += 1;
+    }
+    false
+}
+
+// Do the positions `p` come before `q` in the order of the list?
+fn in_order(p: &[u16], q: &[u16]) -> bool
+    ensures { λ r. ⌜ r ≡ before (now (p .entry)) (now (q .entry)) ⌝ }
+{
+    if p.len() < q.len() {
+        return true;
+    }
+    if q.len() < p.len() {
+        return false;
+    }
+    is_lower(p, q)
+}
+
+// The same of positions and a pattern.
+pub fn is_before(pos: &[u16], p: Pattern) -> bool
+    ensures { λ r. ⌜ r ≡ before (now (pos .entry)) (positions p) ⌝ }
+{
+    let held = spread(p);
+    let n = count_of(p);
+    in_order(pos, &held[..n])
 }
 
 // Condition 3.

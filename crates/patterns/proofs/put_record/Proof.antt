@@ -58,7 +58,7 @@ returns c =
     let ps = a .before .args .pos .now in
     let done = put-done ps (a .loop .out) (a .loop .to) (a .loop .i) (omega arith) in
     record {
-      bytes = sym done ∙ a .loop .inv .3 ∙ put-whole ps (a .before .args .out .now) (a .before .args .at) (omega arith);
+      content = sym done ∙ a .loop .inv .3 ∙ put-whole ps (a .before .args .out .now) (a .before .args .at) (omega arith);
       behind = omega (arith, record-length ps);
     }
 

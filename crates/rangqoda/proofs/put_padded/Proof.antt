@@ -12,7 +12,7 @@ returns : tie.Need-returns
 returns c =
     let w = c .before .before in
     let z = w .before .before .before .before in
-    record-over-zeros (recordOf (z .before .before .before .before .args .pos .now)) _ _ (z .clear .ensures ∙ ap (λ (n : ℕ). replicate n 0) (z .before .before .before .before .pre .1)) (c .before .before .put-record .ensures .bytes)
+    record-over-zeros (recordOf (z .before .before .before .before .args .pos .now)) _ _ (z .clear .ensures ∙ ap (λ (n : ℕ). replicate n 0) (z .before .before .before .before .pre .1)) (c .before .before .put-record .ensures .content)
 
 pub put-padded-spec : {M : Type 1} → statement M
 put-padded-spec = tie.close (tie.spec (λ c κs. search needs) (λ c κs. search needs) (λ c. search needs) returns)
