@@ -16,7 +16,7 @@ use Rattle.patterns.specs.Order.{lower}
 use Rattle.base.specs.Lists.{Ascending, next}
 use Rattle.patterns.specs.Listing.{choose, sift}
 use Rattle.patterns.proofs.SiftLaws.{sift-append, sift-map, sift-none, sift-same, sift-comm}
-use Rattle.search.specs.Search.{xorAll, summing, Head, headless, starts, headOf, firstOf, firstAfter, answer}
+use Rattle.search.specs.Search.{xorAll, summing, Head, headless, starts, headOf, firstFrom, firstAfter, answer}
 use Rattle.search.proofs.ChooseLaws.{choose-zero, choose-past, choose-step, choose-after}
 
 -- the first of two, and one with a position in front
@@ -84,32 +84,32 @@ module _ (power : ℕ → ℕ) where
       ∙ ap (λ (h : Head). orElse h (headOf (summing power u ys)))
       (ap headOf (summing-map u p xs) ∙ head-map p (summing power (bitXor u (power p)) xs))
 
-  pub firstOf-zero : (l from u : ℕ) → firstOf power l zero from u ≡ answer (eqb 0 u) []
-  unfolding firstOf summing sift xorAll headOf
-  firstOf-zero l from u =
+  pub firstFrom-zero : (l from u : ℕ) → firstFrom power l zero from u ≡ answer (eqb 0 u) []
+  unfolding firstFrom summing sift xorAll headOf
+  firstFrom-zero l from u =
       rw choose-zero (by-test (eqb 0 u) (λ e. rw e) (λ e. rw e))
 
   -- no room, with whatever list of no positions
-  pub firstOf-empty : (l from u : ℕ) (xs : List ℕ) → length xs ≡ 0 → firstOf power l (length xs) from u ≡ answer (eqb 0 u) xs
-  firstOf-empty l from u [] h = firstOf-zero l from u
-  firstOf-empty l from u (x ∷ xs) h = absurd (omega arith)
+  pub firstFrom-empty : (l from u : ℕ) (xs : List ℕ) → length xs ≡ 0 → firstFrom power l (length xs) from u ≡ answer (eqb 0 u) xs
+  firstFrom-empty l from u [] h = firstFrom-zero l from u
+  firstFrom-empty l from u (x ∷ xs) h = absurd (omega arith)
 
-  pub firstOf-past : (l k from u : ℕ) → l ≤ from → firstOf power l (suc k) from u ≡ headless
-  unfolding firstOf
-  firstOf-past l k from u h = ap (λ (x : List (List ℕ)). headOf (summing power u x)) (choose-past l k from h) ∙ ap headOf (summing-nil u) ∙ head-nil
+  pub firstFrom-past : (l k from u : ℕ) → l ≤ from → firstFrom power l (suc k) from u ≡ headless
+  unfolding firstFrom
+  firstFrom-past l k from u h = ap (λ (x : List (List ℕ)). headOf (summing power u x)) (choose-past l k from h) ∙ ap headOf (summing-nil u) ∙ head-nil
 
-  pub firstOf-step : (l k from u : ℕ) → from < l
-      → firstOf power l (suc k) from u
-      ≡ orElse (onto from (firstOf power l k (from + 1) (bitXor u (power from)))) (firstOf power l (suc k) (from + 1) u)
-  unfolding firstOf
-  firstOf-step l k from u h =
+  pub firstFrom-step : (l k from u : ℕ) → from < l
+      → firstFrom power l (suc k) from u
+      ≡ orElse (onto from (firstFrom power l k (from + 1) (bitXor u (power from)))) (firstFrom power l (suc k) (from + 1) u)
+  unfolding firstFrom
+  firstFrom-step l k from u h =
       rw add-one
       (ap (λ (x : List (List ℕ)). headOf (summing power u x)) (choose-step l k from h)
       ∙ head-split u from (choose (l - suc from) k (suc from)) (choose (l - suc from) (suc k) (suc from)))
 
-  pub firstOf-whole : (l k u : ℕ) → firstOf power l k 0 u ≡ headOf (summing power u (choose l k zero))
-  unfolding firstOf
-  firstOf-whole l k u = rw sub-zero
+  pub firstFrom-whole : (l k u : ℕ) → firstFrom power l k 0 u ≡ headOf (summing power u (choose l k zero))
+  unfolding firstFrom
+  firstFrom-whole l k u = rw sub-zero
 
   -- what comes after a set is the same from whichever position up to its first the sets are taken
   after-from : (l from : ℕ) (ps : List ℕ) → Ascending l from ps
@@ -121,14 +121,14 @@ module _ (power : ℕ → ℕ) where
 
   -- nothing comes after the empty set among those of no positions
   pub firstAfter-empty : (l u : ℕ) (xs : List ℕ) → length xs ≡ 0 → firstAfter power l xs u ≡ headless
-  unfolding firstAfter lower
+  unfolding firstAfter lower summing sift xorAll headOf
   firstAfter-empty l u (x ∷ xs) h = absurd (omega arith)
-  firstAfter-empty l u [] h = ap headOf (sift-none (lower []) (summing power u (choose l zero zero)) (λ q i. refl)) ∙ head-nil
+  firstAfter-empty l u [] h = rw choose-zero (by-test (eqb 0 u) (λ e. rw e) (λ e. rw e))
 
   pub firstAfter-cons : (l p : ℕ) (ps : List ℕ) (u : ℕ) → Ascending l 0 (p ∷ ps)
       → firstAfter power l (p ∷ ps) u
-      ≡ orElse (onto p (firstAfter power l ps (bitXor u (power p)))) (firstOf power l (suc (length ps)) (p + 1) u)
-  unfolding firstAfter firstOf
+      ≡ orElse (onto p (firstAfter power l ps (bitXor u (power p)))) (firstFrom power l (suc (length ps)) (p + 1) u)
+  unfolding firstAfter firstFrom
   firstAfter-cons l p ps u (next h b a) =
       rw add-one
       (ap headOf (summing-sift u (lower (p ∷ ps)) (choose l (suc (length ps)) zero))

@@ -12,8 +12,8 @@ use lib.ListN.{length, getD, set}
 use borrow.Author.Tests.{lt-ltb, le-ltb, eq-eqb, ne-eqb, eqb-true, eqb-false}
 use Rattle.base.proofs.Cases.{by-test, by-order}
 use Rattle.base.proofs.XorLaws.{xor-zero-equal}
-use Rattle.search.specs.Search.{Head, firstOf, answer, Nearest, Firsts, Lookup, Ready}
-use Rattle.search.proofs.HeadLaws.{orElse, onto, firstOf-zero, firstOf-past, firstOf-step}
+use Rattle.search.specs.Search.{Head, firstFrom, answer, Nearest, Firsts, Lookup, Ready}
+use Rattle.search.proofs.HeadLaws.{orElse, onto, firstFrom-zero, firstFrom-past, firstFrom-step}
 
 -- the least multiple of c that is at least d
 pub reach-bounds : (d c : ℕ) → 1 ≤ c → (d ≤ (d + c - 1) / c * c) × ((d + c - 1) / c * c < d + c)
@@ -81,13 +81,13 @@ module _ (power : ℕ → ℕ) where
   xor-miss u w h = ne-eqb 0 (bitXor u w) (λ e. h (sym (xor-zero-equal u w (sym e))))
 
   -- the nearest position is the first set of one
-  pub nearest-first : (l u p d lo : ℕ) → lo + d ≡ l → Nearest power l lo u p → firstOf power l 1 lo u ≡ answer (ltb p l) (p ∷ [])
+  pub nearest-first : (l u p d lo : ℕ) → lo + d ≡ l → Nearest power l lo u p → firstFrom power l 1 lo u ≡ answer (ltb p l) (p ∷ [])
   nearest-first l u p zero lo e n =
       by-order p l (λ h. absurd (let m = n .met h in omega (arith, m .0)))
-      (λ h. firstOf-past power l zero lo u (omega arith) ∙ sym (rw (le-ltb p l h)))
+      (λ h. firstFrom-past power l zero lo u (omega arith) ∙ sym (rw (le-ltb p l h)))
   nearest-first l u p (suc d) lo e n =
-      let s = firstOf-step power l zero lo u (omega arith) in
-      let z = firstOf-zero power l (lo + 1) (bitXor u (power lo)) in
+      let s = firstFrom-step power l zero lo u (omega arith) in
+      let z = firstFrom-zero power l (lo + 1) (bitXor u (power lo)) in
       by-test (eqb (power lo) u)
       (λ h.
       let hit : power lo ≡ u = eqb-true _ _ h in
@@ -123,19 +123,19 @@ ready-at r h = record { n = r .n; shape = r .shape; index = r .index; start = h;
 
 module _ {power : ℕ → ℕ} {pow first : List ℕ} {period : ℕ} (t : Lookup power pow first period) where
   pub place-turn : (k a u : ℕ) → a < length pow
-      → firstOf power (length pow) (suc k) a u
-      ≡ orElse (onto a (firstOf power (length pow) k (a + 1) (bitXor u (getD pow a 0)))) (firstOf power (length pow) (suc k) (a + 1) u)
+      → firstFrom power (length pow) (suc k) a u
+      ≡ orElse (onto a (firstFrom power (length pow) k (a + 1) (bitXor u (getD pow a 0)))) (firstFrom power (length pow) (suc k) (a + 1) u)
   place-turn k a u h =
-      firstOf-step power (length pow) k a u h
-      ∙ ap (λ (x : ℕ). orElse (onto a (firstOf power (length pow) k (a + 1) (bitXor u x))) (firstOf power (length pow) (suc k) (a + 1) u))
+      firstFrom-step power (length pow) k a u h
+      ∙ ap (λ (x : ℕ). orElse (onto a (firstFrom power (length pow) k (a + 1) (bitXor u x))) (firstFrom power (length pow) (suc k) (a + 1) u))
       (sym (t .known a h))
 
   -- with the last one looked up
   pub pair-turn : (a u b : ℕ) → a < length pow → {from : ℕ} → from ≡ a + 1 → Nearest power (length pow) from (bitXor u (getD pow a 0)) b
-      → firstOf power (length pow) 2 a u ≡ orElse (onto a (answer (ltb b (length pow)) (b ∷ []))) (firstOf power (length pow) 2 (a + 1) u)
+      → firstFrom power (length pow) 2 a u ≡ orElse (onto a (answer (ltb b (length pow)) (b ∷ []))) (firstFrom power (length pow) 2 (a + 1) u)
   pair-turn a u b h e n =
       place-turn 1 a u h
-      ∙ ap (λ (x : Head). orElse (onto a x) (firstOf power (length pow) 2 (a + 1) u))
+      ∙ ap (λ (x : Head). orElse (onto a x) (firstFrom power (length pow) 2 (a + 1) u))
       (nearest-first power (length pow) (bitXor u (getD pow a 0)) b (length pow - (a + 1)) (a + 1) (omega arith) (rw e at n))
 
 -- what the stores leave in a slice of one and of two

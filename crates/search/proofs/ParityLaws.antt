@@ -15,8 +15,8 @@ use Rattle.patterns.specs.Order.{lower}
 use Rattle.patterns.specs.Listing.{choose, sift}
 use Rattle.patterns.proofs.SiftLaws.{sift-none}
 use Rattle.patterns.proofs.ListingLaws.{choose-in}
-use Rattle.search.specs.Search.{xorAll, summing, headless, headOf, firstOf, firstAfter, Lookup, OddOnes, ruledOut}
-use Rattle.search.proofs.HeadLaws.{head-nil, firstOf-whole}
+use Rattle.search.specs.Search.{xorAll, summing, headless, headOf, firstFrom, firstAfter, Lookup, OddOnes, ruledOut}
+use Rattle.search.proofs.HeadLaws.{head-nil, firstFrom-whole}
 
 sum-parity : (power : ℕ → ℕ) {l from : ℕ} {ps : List ℕ} → ((p : ℕ) → p < l → ones (power p) % 2 ≡ 1)
     → Ascending l from ps → length ps % 2 ≡ ones (xorAll power ps) % 2
@@ -46,8 +46,8 @@ module _ (g k u : ℕ) (out : ruledOut g k u ≡ true) where
         ∙ sum-parity power (λ p h. rw (← t .known p h) (odd out-even p h)) (a .0)
         ∙ ap (λ (x : ℕ). ones x % 2) e)))
 
-    pub none-placed : firstOf power (length pow) k 0 u ≡ headless
-    none-placed = firstOf-whole power (length pow) k u ∙ ap headOf none-summing ∙ head-nil
+    pub none-placed : firstFrom power (length pow) k 0 u ≡ headless
+    none-placed = firstFrom-whole power (length pow) k u ∙ ap headOf none-summing ∙ head-nil
 
     pub none-after : (ps : List ℕ) → length ps ≡ k → firstAfter power (length pow) ps u ≡ headless
     unfolding firstAfter sift

@@ -9,8 +9,9 @@ use lib.Count.{ones}
 use lib.Dec.{eqb}
 use lib.ListN.{length, getD, take}
 use Rattle.base.specs.Lists.{Ascending}
-use Rattle.patterns.specs.Order.{lower, before}
+use Rattle.patterns.specs.Order.{lower}
 use Rattle.patterns.specs.Listing.{choose, upTo, sift}
+use Rattle.patterns.specs.Walk.{byPositions}
 use Rattle.search.specs.declared.Found.{Found}
 use Rattle.search.specs.declared.Found.the-variants.{At, Nothing}
 
@@ -23,9 +24,9 @@ xorAll power (p ∷ ps) = bitXor (power p) (xorAll power ps)
 unfoldable pub summing : (ℕ → ℕ) → ℕ → List (List ℕ) → List (List ℕ)
 summing power u xs = sift (λ ps. eqb (xorAll power ps) u) xs
 
--- the list: the sets of at most so many positions below l whose powers have the sum s
-unfoldable pub listed : (ℕ → ℕ) → ℕ → ℕ → ℕ → List (List ℕ)
-listed power l limit s = summing power s (upTo l limit)
+-- what a walk meets: the sets of at most so many positions below l whose powers have the sum s
+unfoldable pub walked : (ℕ → ℕ) → ℕ → ℕ → ℕ → List (List ℕ)
+walked power l limit s = summing power s (upTo l limit)
 
 -- the first of a list of sets, if it has one
 pub data Head : Type 0 where
@@ -37,8 +38,8 @@ headOf [] = headless
 headOf (p ∷ ps) = starts p
 
 -- the first set of k positions from `from` on and below l whose powers have the sum u
-unfoldable pub firstOf : (ℕ → ℕ) → ℕ → ℕ → ℕ → ℕ → Head
-firstOf power l k from u = headOf (summing power u (choose (l - from) k from))
+unfoldable pub firstFrom : (ℕ → ℕ) → ℕ → ℕ → ℕ → ℕ → Head
+firstFrom power l k from u = headOf (summing power u (choose (l - from) k from))
 
 -- the first such set that comes after ps, among those of as many positions as ps
 unfoldable pub firstAfter : (ℕ → ℕ) → ℕ → List ℕ → ℕ → Head
@@ -111,25 +112,25 @@ ruledOut g k u = not (eqb (k % 2) (ones u % 2)) && eqb (ones g % 2) 0
 -- what placing k positions from lo on answers, for whatever powers the tables describe
 abbrev pub Placed : List ℕ → List ℕ → ℕ → ℕ → ℕ → ℕ → Bool → List ℕ → Type 0
 Placed pow first period k lo u r pos =
-    (power : ℕ → ℕ) → Lookup power pow first period → answer r pos ≡ firstOf power (length pow) k lo u
+    (power : ℕ → ℕ) → Lookup power pow first period → answer r pos ≡ firstFrom power (length pow) k lo u
 
--- a search through `ahead`, a part of `list` that ends where the list ends: nothing is there, or the set found
+-- a search through `ahead`, a part of `list` that ends where the list ends, in the order R: nothing is there, or the set found
 -- leads it, and behind it stands what comes after it in the list
-pub record FoundFirst (l : ℕ) (list ahead : List (List ℕ)) (p : List ℕ) : Type 0 where
-  pub split : ahead ≡ p ∷ sift (before p) list
+pub record FoundFirst (R : List ℕ → List ℕ → Bool) (l : ℕ) (list ahead : List (List ℕ)) (p : List ℕ) : Type 0 where
+  pub split : ahead ≡ p ∷ sift (R p) list
   pub ascends : Ascending l 0 p
 
-abbrev pub Told : ℕ → ℕ → List (List ℕ) → List (List ℕ) → Found → List ℕ → Type 0
-Told l limit list ahead (At k) pos = FoundFirst l list ahead (take k pos) × (k ≤ limit)
-Told l limit list ahead Nothing pos = ahead ≡ []
+abbrev pub Told : (List ℕ → List ℕ → Bool) → ℕ → ℕ → List (List ℕ) → List (List ℕ) → Found → List ℕ → Type 0
+Told R l limit list ahead (At k) pos = FoundFirst R l list ahead (take k pos) × (k ≤ limit)
+Told R l limit list ahead Nothing pos = ahead ≡ []
 
 -- what the two searches tell, for whatever powers the tables describe: of the list, and of what follows p in it
 abbrev pub FirstTold : List ℕ → List ℕ → ℕ → ℕ → ℕ → Found → List ℕ → Type 0
 FirstTold pow first period s limit r pos =
     (power : ℕ → ℕ) → Lookup power pow first period
-    → Told (length pow) limit (listed power (length pow) limit s) (listed power (length pow) limit s) r pos
+    → Told byPositions (length pow) limit (walked power (length pow) limit s) (walked power (length pow) limit s) r pos
 
 abbrev pub NextTold : List ℕ → List ℕ → ℕ → ℕ → ℕ → List ℕ → Found → List ℕ → Type 0
 NextTold pow first period s limit p r pos =
     (power : ℕ → ℕ) → Lookup power pow first period
-    → Told (length pow) limit (listed power (length pow) limit s) (sift (before p) (listed power (length pow) limit s)) r pos
+    → Told byPositions (length pow) limit (walked power (length pow) limit s) (sift (byPositions p) (walked power (length pow) limit s)) r pos

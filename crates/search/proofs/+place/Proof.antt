@@ -5,8 +5,8 @@ use Prim.Native.Nat.{ℕ, suc, _-_, _≤_, _<_}
 use borrow.Author.Needs.{needs}
 use native.Mathlib.Omega.{arith}
 use lib.ListN.{length, length-set}
-use Rattle.search.specs.Search.{firstOf, Lookup}
-use Rattle.search.proofs.HeadLaws.{firstOf-past}
+use Rattle.search.specs.Search.{firstFrom, Lookup}
+use Rattle.search.proofs.HeadLaws.{firstFrom-past}
 use Rattle.search.proofs.NearestLaws.{ready-next}
 use Rattle.search.proofs.TailLaws.{tail-length, tail-back-length, place-hit, place-miss}
 use borrow.Fn.Kinds.{In}
@@ -30,7 +30,7 @@ place-below t = and 3 place-kinds.ps (falls 3 place-kinds.ps _<_ μ-place t) pla
 abbrev place-Inv-loop : place-lts.InvT-loop
 place-Inv-loop pow first period lo u pos₀ a₀ pos a =
     (lo ≤ a) × (a ≤ length pow) × (length pos ≡ length pos₀)
-    × ((power : ℕ → ℕ) → Lookup power pow first period → firstOf power (length pow) (length pos₀) lo u ≡ firstOf power (length pow) (length pos₀) a u)
+    × ((power : ℕ → ℕ) → Lookup power pow first period → firstFrom power (length pow) (length pos₀) lo u ≡ firstFrom power (length pow) (length pos₀) a u)
 
 abbrev place-μ-loop : place-lts.MeasureT-loop
 place-μ-loop pow first period lo u pos₀ a₀ pos a = length pow - a
@@ -83,8 +83,8 @@ place-returns-3 t c power l =
     let e : n ≡ suc (n - 1) = omega arith in
     sym
     (c .before .loop .inv .3 power l
-    ∙ ap (λ (k : ℕ). firstOf power (length (s .args .pow .now)) k (c .before .loop .a) (s .args .u)) e
-    ∙ firstOf-past power (length (s .args .pow .now)) (n - 1) (c .before .loop .a) (s .args .u) (c .loop-test .left))
+    ∙ ap (λ (k : ℕ). firstFrom power (length (s .args .pow .now)) k (c .before .loop .a) (s .args .u)) e
+    ∙ firstFrom-past power (length (s .args .pow .now)) (n - 1) (c .before .loop .a) (s .args .u) (c .loop-test .left))
 
 pub +place-spec : {M : Type 1} → statement M
 +place-spec = close μ-place λ t. place-lts.spec (

@@ -6,8 +6,8 @@ use borrow.Author.Needs.{needs}
 use borrow.Author.Tests.{lt-ltb, le-ltb}
 use native.Mathlib.Omega.{arith}
 use lib.ListN.{length, length-set}
-use Rattle.search.specs.Search.{starts, firstOf, Lookup}
-use Rattle.search.proofs.HeadLaws.{firstOf-past}
+use Rattle.search.specs.Search.{starts, firstFrom, Lookup}
+use Rattle.search.proofs.HeadLaws.{firstFrom-past}
 use Rattle.search.proofs.NearestLaws.{pair-turn, ready-next, set-two}
 use Rattle.search.proofs.pair.Statement.{statement}
 use Rattle.search.proofs.pair.Tie as tie
@@ -15,7 +15,7 @@ use Rattle.search.proofs.pair.Tie as tie
 abbrev Inv-loop : tie.InvT-loop
 Inv-loop pow first period lo u pos₀ l a₀ pos a =
     (lo ≤ a) × (a ≤ length pow) × (length pos ≡ 2)
-    × ((power : ℕ → ℕ) → Lookup power pow first period → firstOf power (length pow) 2 lo u ≡ firstOf power (length pow) 2 a u)
+    × ((power : ℕ → ℕ) → Lookup power pow first period → firstFrom power (length pow) 2 lo u ≡ firstFrom power (length pow) 2 a u)
 
 abbrev μ-loop : tie.MeasureT-loop
 μ-loop pow first period lo u pos₀ l a₀ pos a = length pow - a
@@ -60,7 +60,7 @@ loop-again c =
 returns-2 : tie.Need-returns-2 Inv-loop μ-loop
 returns-2 c power t =
     let s = c .before .before .before .before .before in
-    sym (c .before .loop .inv .3 power t ∙ firstOf-past power (length (s .args .pow .now)) 1 (c .before .loop .a) (s .args .u) (c .loop-test .left))
+    sym (c .before .loop .inv .3 power t ∙ firstFrom-past power (length (s .args .pow .now)) 1 (c .before .loop .a) (s .args .u) (c .loop-test .left))
 
 pub pair-spec : {M : Type 1} → statement M
 pair-spec =
