@@ -1,4 +1,4 @@
--- The tables of a generator serve the search: its powers are those of x, and its list is the listing.
+-- The tables of a generator serve the search: its powers are those of x, and what it meets is the walk.
 use mathlib.Core.Path.{_≡_, sym, ap, subst, _∙_}
 use mathlib.Core.List.{List, [], _∷_}
 use Prim.Native.Nat.{ℕ, _%_, _^_, _<_, _≤_}
@@ -18,11 +18,12 @@ use Rattle.tables.proofs.PowerLaws.{power-lt}
 use Rattle.tables.proofs.PeriodLaws.{period-positive, power-again, power-only}
 use Rattle.tables.proofs.FirstLaws.{first-hit, first-least}
 use Rattle.tables.proofs.TableLaws.{length-values, getD-values, length-firstTable, getD-firstTable}
-use Rattle.patterns.specs.Listing.{syndrome, listing, upTo}
+use Rattle.patterns.specs.Listing.{syndrome, upTo}
+use Rattle.patterns.specs.Walk.{byPositions, walk}
 use Rattle.patterns.proofs.SiftLaws.{sift-same}
-use Rattle.search.specs.Search.{xorAll, summing, listed, Told, OddOnes}
+use Rattle.search.specs.Search.{xorAll, summing, walked, Told, OddOnes}
 use Rattle.search.specs.declared.Found.{Found}
-use Rattle.cursor.specs.Cursors.{cursorOf, Listable, Prepared}
+use Rattle.cursor.specs.Cursors.{Serves, Prepared}
 use Rattle.cursor.specs.declared.Cursor.{Cursor}
 
 -- the syndrome of a set of positions is the sum of their powers
@@ -31,18 +32,18 @@ unfolding syndrome powers xorAll power
 syndrome-sum n g d [] = rem-zero n g
 syndrome-sum n g d (p ∷ ps) = rem-xor n g (d .low) (d .high) (2 ^ p) (powers ps) ∙ ap (bitXor (rem n g (2 ^ p))) (syndrome-sum n g d ps)
 
-listing-listed : (n g : ℕ) → Divisor n g → (l limit s : ℕ) → listing n g l limit s ≡ listed (power n g) l limit s
-unfolding listing listed summing
-listing-listed n g d l limit s =
+walk-walked : (n g : ℕ) → Divisor n g → (l limit s : ℕ) → walk n g l limit s ≡ walked (power n g) l limit s
+unfolding walk walked summing
+walk-walked n g d l limit s =
     sift-same (λ ps. eqb (syndrome n g ps) s) (λ ps. eqb (xorAll (power n g) ps) s) (upTo l limit)
     (λ ps h. ap (λ (x : ℕ). eqb x s) (syndrome-sum n g d ps))
 
--- a search over the powers of the generator tells of the listing
-pub told-listing : (n g : ℕ) → Divisor n g → (l limit s : ℕ) (ahead : List (List ℕ) → List (List ℕ)) (r : Found) (pos : List ℕ)
-    → Told l limit (listed (power n g) l limit s) (ahead (listed (power n g) l limit s)) r pos
-    → Told l limit (listing n g l limit s) (ahead (listing n g l limit s)) r pos
-told-listing n g d l limit s ahead r pos h =
-    subst (λ (xs : List (List ℕ)). Told l limit xs (ahead xs) r pos) (sym (listing-listed n g d l limit s)) h
+-- a search over the powers of the generator tells of the walk
+pub told-walk : (n g : ℕ) → Divisor n g → (l limit s : ℕ) (ahead : List (List ℕ) → List (List ℕ)) (r : Found) (pos : List ℕ)
+    → Told byPositions l limit (walked (power n g) l limit s) (ahead (walked (power n g) l limit s)) r pos
+    → Told byPositions l limit (walk n g l limit s) (ahead (walk n g l limit s)) r pos
+told-walk n g d l limit s ahead r pos h =
+    subst (λ (xs : List (List ℕ)). Told byPositions l limit xs (ahead xs) r pos) (sym (walk-walked n g d l limit s)) h
 
 -- with a generator that has an even number of ones, every power has an odd number of them
 pub odd-ones : {c : Cursor} {pow first : List ℕ} → Prepared c pow first → OddOnes (c .generator .coefficients) pow
@@ -53,24 +54,24 @@ odd-ones {c} h even p k =
     ∙ parity-rem (c .generator .degree) (c .generator .coefficients) (d .low) (d .high) even (2 ^ p)
     ∙ ap (λ (x : ℕ). x % 2) (ones-power p)
 
--- powers filled in and tables that are right serve a cursor
-module _ (g : Generator) (s l : ℕ) (pow steps firsts : List ℕ) (h : Listable g l s steps firsts) (filled : pow ≡ values (power (g .degree) (g .coefficients)) l 0) where
+-- what serves every syndrome serves a cursor
+module _ {g : Generator} {l k : ℕ} {pow firsts : List ℕ} (h : Serves g l pow firsts k) where
   full : length firsts ≡ 2 ^ g .degree
   full = ap length (h .rightFirsts) ∙ length-firstTable (g .degree) (g .coefficients)
 
-  long : length pow ≡ l
-  long = ap length filled ∙ length-values (power (g .degree) (g .coefficients)) l 0
+  pub as-long : length pow ≡ l
+  as-long = ap length (h .powers) ∙ length-values (power (g .degree) (g .coefficients)) l 0
 
   known : (p : ℕ) → p < length pow → getD pow p 0 ≡ power (g .degree) (g .coefficients) p
-  known p k =
-      ap (λ (t : List ℕ). getD t p 0) filled
-      ∙ getD-values (power (g .degree) (g .coefficients)) l 0 p (omega (arith, long)) ∙ ap (power (g .degree) (g .coefficients)) (zero-add p)
+  known p j =
+      ap (λ (t : List ℕ). getD t p 0) (h .powers)
+      ∙ getD-values (power (g .degree) (g .coefficients)) l 0 p (omega (arith, as-long)) ∙ ap (power (g .degree) (g .coefficients)) (zero-add p)
 
   entry : (t : ℕ) → t < 2 ^ g .degree → getD firsts t 0 ≡ first (g .degree) (g .coefficients) t
-  entry t k = ap (λ (xs : List ℕ). getD xs t 0) (h .rightFirsts) ∙ getD-firstTable (g .degree) (g .coefficients) t k
+  entry t j = ap (λ (xs : List ℕ). getD xs t 0) (h .rightFirsts) ∙ getD-firstTable (g .degree) (g .coefficients) t j
 
-  pub prepared : Prepared (cursorOf g s) pow firsts
-  prepared =
+  pub prepared : (s : ℕ) → s < 2 ^ g .degree → Prepared (record { generator = g; period = k; syndrome = s }) pow firsts
+  prepared s within =
       let n : ℕ = g .degree in
       let b : ℕ = g .coefficients in
       let d = h .fit .divisor in
@@ -80,20 +81,20 @@ module _ (g : Generator) (s l : ℕ) (pow steps firsts : List ℕ) (h : Listable
         ready =
             record {
               n = n;
-              shape = record { short = omega (arith, long, h .short); inside = λ p k. rw (known p k) (power-lt n b d p) };
-              index = record { full = full; positive = period-positive n b d one };
+              shape = record { short = omega (arith, as-long, h .short); inside = λ p j. rw (known p j) (power-lt n b d p) };
+              index = record { full = full; positive = rw (h .turns) (period-positive n b d one) };
               start = omega arith;
-              sum = h .within;
+              sum = within;
             };
         lookup =
             record {
               known = known;
               firsts =
                   record {
-                    hit = λ t k e. rw (entry t (omega (arith, full))) (first-hit n b d one t (omega (arith, full)) (rw (entry t (omega (arith, full))) at e));
+                    hit = λ t j e. rw (entry t (omega (arith, full))) (first-hit n b d one t (omega (arith, full)) (rw (entry t (omega (arith, full))) at e));
                     least = λ p. rw (entry (power n b p) (power-lt n b d p)) (first-least n b d one p);
-                    again = power-again n b d one;
-                    only = power-only n b d one;
+                    again = rw (h .turns) (power-again n b d one);
+                    only = rw (h .turns) (power-only n b d one);
                   };
             };
       }

@@ -1,31 +1,33 @@
 -- What a cursor asks and tells: for inner functions alone.
 use mathlib.Core.Path.{_≡_}
-use Prim.Native.Nat.{ℕ, _^_, _<_, _≤_}
+use mathlib.Core.Bool.{Bool}
+use Prim.Native.Nat.{ℕ, _≤_}
 use mathlib.Core.List.{List, [], _∷_}
 use lib.ListN.{length, take}
 use Rattle.base.specs.Lists.{Ascending}
 use Rattle.poly.specs.Fit.{Fit}
 use Rattle.poly.specs.declared.Generator.{Generator}
-use Rattle.tables.specs.Tables.{power, period, stepTable, firstTable}
-use Rattle.patterns.specs.Patterns.{Place, start, ended, after}
-use Rattle.patterns.specs.Order.{before}
-use Rattle.patterns.specs.Listing.{sift, listing}
+use Rattle.tables.specs.Tables.{power, values, period, stepTable, firstTable}
+use Rattle.patterns.specs.Listing.{sift}
+use Rattle.patterns.specs.Walk.{walk}
 use Rattle.search.specs.Search.{Ready, Lookup}
 use Rattle.search.specs.declared.Found.{Found}
 use Rattle.search.specs.declared.Found.the-variants.{At, Nothing}
 use Rattle.cursor.specs.declared.Cursor.{Cursor}
 
--- an accepted generator, a length and a syndrome, with tables that are right
-pub record Listable (g : Generator) (bits s : ℕ) (steps firsts : List ℕ) : Type 0 where
+-- an accepted generator, with tables that are right
+pub record RightTables (g : Generator) (steps firsts : List ℕ) : Type 0 where
   pub fit : Fit g
-  pub short : bits ≤ 4096
-  pub within : s < 2 ^ g .degree
   pub rightSteps : steps ≡ stepTable (g .degree) (g .coefficients)
   pub rightFirsts : firsts ≡ firstTable (g .degree) (g .coefficients)
 
--- the cursor over the list of a generator and a syndrome
-abbrev pub cursorOf : Generator → ℕ → Cursor
-cursorOf g s = record { generator = g; period = period (g .degree) (g .coefficients); syndrome = s }
+-- the powers of x below l, the first positions and the period of a generator: they serve every syndrome
+pub record Serves (g : Generator) (l : ℕ) (pow firsts : List ℕ) (round : ℕ) : Type 0 where
+  pub fit : Fit g
+  pub short : l ≤ 4096
+  pub powers : pow ≡ values (power (g .degree) (g .coefficients)) l 0
+  pub rightFirsts : firsts ≡ firstTable (g .degree) (g .coefficients)
+  pub turns : round ≡ period (g .degree) (g .coefficients)
 
 -- powers and first positions that serve a cursor
 pub record Prepared (c : Cursor) (pow first : List ℕ) : Type 0 where
@@ -33,15 +35,9 @@ pub record Prepared (c : Cursor) (pow first : List ℕ) : Type 0 where
   pub ready : Ready pow first (c .period) 0 (c .syndrome)
   pub lookup : Lookup (power (c .generator .degree) (c .generator .coefficients)) pow first (c .period)
 
--- its list, for l bits and a limit
-abbrev pub listedBy : Cursor → ℕ → ℕ → List (List ℕ)
-listedBy c l limit = listing (c .generator .degree) (c .generator .coefficients) l limit (c .syndrome)
-
--- a mark from which a search for at most so many positions below l can go on
-abbrev pub Marked : ℕ → ℕ → Place → Type 0
-Marked l limit start = Unit {0}
-Marked l limit ended = Unit {0}
-Marked l limit (after ps) = Ascending l 0 ps × (length ps ≤ limit)
+-- what it meets, for l bits and a limit
+abbrev pub walkedBy : Cursor → ℕ → ℕ → List (List ℕ)
+walkedBy c l limit = walk (c .generator .degree) (c .generator .coefficients) l limit (c .syndrome)
 
 -- positions in front of a slice that a search can go on from
 abbrev pub InFront : ℕ → ℕ → List ℕ → Type 0
@@ -51,7 +47,7 @@ abbrev pub FoundFits : ℕ → Found → List ℕ → Type 0
 FoundFits l (At k) pos = InFront l k pos
 FoundFits l Nothing pos = Unit {0}
 
--- the patterns of a list from the one found on
-abbrev pub aheadOf : List (List ℕ) → Found → List ℕ → List (List ℕ)
-aheadOf list (At k) pos = take k pos ∷ sift (before (take k pos)) list
-aheadOf list Nothing pos = []
+-- the patterns of a list, in the order R, from the one found on
+abbrev pub aheadOf : (List ℕ → List ℕ → Bool) → List (List ℕ) → Found → List ℕ → List (List ℕ)
+aheadOf R list (At k) pos = take k pos ∷ sift (R (take k pos)) list
+aheadOf R list Nothing pos = []

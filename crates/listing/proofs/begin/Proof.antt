@@ -1,19 +1,16 @@
 -- `begin` searches from the mark, by its case.
+use mathlib.Core.Bool.{Bool}
 use mathlib.Core.List.{List}
 use Prim.Native.Nat.{ℕ}
 use borrow.Author.Needs.{needs}
 use lib.ListN.{length}
-use Rattle.tables.specs.Tables.{power}
-use Rattle.cursor.specs.Cursors.{listedBy}
-use Rattle.cursor.proofs.LookupLaws.{told-listing, odd-ones}
-use Rattle.cursor.proofs.AheadLaws.{told-along, from-start, from-ended, from-after, after-marked}
-use Rattle.cursor.proofs.begin.Statement.{statement}
-use Rattle.cursor.proofs.begin.Tie as tie
-
-search-first-requires : tie.Need-search-first-requires
-search-first-requires c κs =
-    let p = c .before .before .before .before .before .before .pre .0 in
-    (p .ready, odd-ones p)
+use Rattle.patterns.specs.Order.{before}
+use Rattle.cursor.proofs.AheadLaws.{told-along}
+use Rattle.listing.specs.Listings.{listedBy}
+use Rattle.listing.proofs.WalkOrderLaws.{told-listing}
+use Rattle.listing.proofs.MarkedLaws.{from-start, from-ended, from-after, after-marked}
+use Rattle.listing.proofs.begin.Statement.{statement}
+use Rattle.listing.proofs.begin.Tie as tie
 
 go-on-requires : tie.Need-go-on-requires
 go-on-requires c κs =
@@ -27,11 +24,11 @@ returns c =
     let g = s .args .cursor .generator in
     let l : ℕ = length (s .args .pow .now) in
     let m : ℕ = length (s .args .pos .now) in
-    let next = f .search-first .last .1 .1 .1 .1 .1 .0 in
-    told-along l m (listedBy (s .args .cursor) l m) (f .search-first .result) next
+    let next = f .meet-first .last .1 .1 .1 .0 in
+    told-along before l m (listedBy (s .args .cursor) l m) (f .meet-first .result) next
     (from-start (listedBy (s .args .cursor) l m) (f .before .before .enum-told .given .1))
-    (told-listing (g .degree) (g .coefficients) (s .pre .0 .fit .divisor) l m (s .args .cursor .syndrome) (λ (xs : List (List ℕ)). xs) (f .search-first .result) next
-    (f .search-first .ensures (power (g .degree) (g .coefficients)) (s .pre .0 .lookup)))
+    (told-listing (g .degree) (g .coefficients) l m (s .args .cursor .syndrome) (λ (R : List ℕ → List ℕ → Bool) (xs : List (List ℕ)). xs) (f .meet-first .result) next
+    (f .meet-first .ensures))
 
 returns-2 : tie.Need-returns-2
 returns-2 c =
@@ -45,14 +42,14 @@ returns-3 c =
     let l : ℕ = length (s .args .pow .now) in
     let m : ℕ = length (s .args .pos .now) in
     let xs : List (List ℕ) = listedBy (s .args .cursor) l m in
-    told-along l m xs (f .go-on .result) (f .go-on .last .1 .1 .1 .1 .0) (from-after xs (f .before .before .before .mark .given .1)) (f .go-on .ensures)
+    told-along before l m xs (f .go-on .result) (f .go-on .last .1 .1 .1 .1 .0) (from-after xs (f .before .before .before .mark .given .1)) (f .go-on .ensures)
 
 pub begin-spec : {M : Type 1} → statement M
 begin-spec =
     tie.close
     (tie.spec
     (λ c. search needs)
-    search-first-requires
+    (λ c κs. search needs)
     (λ c. search needs)
     (λ c. search needs)
     go-on-requires

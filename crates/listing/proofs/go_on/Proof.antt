@@ -5,9 +5,12 @@ use native.Mathlib.Omega.{arith}
 use borrow.Author.Needs.{needs}
 use lib.ListN.{length}
 use Rattle.patterns.specs.Patterns.{positions}
-use Rattle.cursor.proofs.AheadLaws.{put-length, put-take, put-front, told-from}
-use Rattle.cursor.proofs.go_on.Statement.{statement}
-use Rattle.cursor.proofs.go_on.Tie as tie
+use Rattle.patterns.specs.Order.{before}
+use Rattle.cursor.proofs.AheadLaws.{told-from}
+use Rattle.listing.specs.Listings.{listedBy}
+use Rattle.listing.proofs.MarkedLaws.{put-length, put-take, put-front}
+use Rattle.listing.proofs.go_on.Statement.{statement}
+use Rattle.listing.proofs.go_on.Tie as tie
 
 advance-requires : tie.Need-advance-requires
 advance-requires c κs =
@@ -21,7 +24,7 @@ returns c =
     let put = c .before .before .before .before .before .before .before in
     let k = c .before .before .before .before in
     let ps : List ℕ = positions (s .args .p) in
-    told-from (s .args .cursor .generator .degree) (s .args .cursor .generator .coefficients) (length (s .args .pow .now)) (s .args .cursor .syndrome)
+    told-from before (listedBy (s .args .cursor) (length (s .args .pow .now))) (length (s .args .pow .now))
     (c .before .before .advance .result) (c .before .before .advance .last .1 .1 .1 .0)
     (put-length ps (s .args .pos .now) (put .put-positions .last .1 .0) (put .put-positions .ensures) (s .pre .1 .1))
     (put-take ps (s .args .pos .now) (put .put-positions .last .1 .0) (k .count-of .result) (put .put-positions .ensures) (k .count-of .ensures))

@@ -1,0 +1,2 @@
+pub mod WalkOrderLaws
+pub mod MarkedLaws
