@@ -17,7 +17,9 @@ ghost use Rattle.patterns.specs.Patterns.{mostPositions, placeOf};
 ghost use Rattle.patterns.specs.Listing.{listing};
 ghost use Rattle.patterns.specs.Marks.{remaining};
 ghost use Rattle.patterns.specs.Pages.{pageOf, pageBytes};
-ghost use Rattle.cursor.specs.Cursors.{Listable, Prepared, Marked, FoundFits, listedBy, aheadOf};
+ghost use Rattle.patterns.specs.Order.{before};
+ghost use Rattle.cursor.specs.Cursors.{Prepared, FoundFits, aheadOf};
+ghost use Rattle.listing.specs.Listings.{Marked, Listable, listedBy};
 ghost use Rattle.pages.specs.Conditions.{pageRequest, unfitOutput, pageConditions};
 ghost use Rattle.pages.specs.Calls.{pageAnswer, pageCall, pageLeft, pageResult};
 
@@ -90,8 +92,8 @@ fn fill(
     output: &mut [u8],
 ) -> PageResult
     requires { ⌜ Prepared cursor (now pow) (now first) × (FoundFits (length (now pow)) found (now pos) × (length (now pos) ≤ mostPositions)) ⌝ }
-    ensures page { λ r. ⌜ pageResult r ≡ pageOf (aheadOf (listedBy cursor (length (now (pow .entry))) (length (now (pos .entry)))) found (now (pos .entry))) (length (now (output .entry))) ⌝ }
-    ensures bytes { λ _. ⌜ now (output .exit) ≡ pageBytes (aheadOf (listedBy cursor (length (now (pow .entry))) (length (now (pos .entry)))) found (now (pos .entry))) (now (output .entry)) ⌝ }
+    ensures page { λ r. ⌜ pageResult r ≡ pageOf (aheadOf before (listedBy cursor (length (now (pow .entry))) (length (now (pos .entry)))) found (now (pos .entry))) (length (now (output .entry))) ⌝ }
+    ensures bytes { λ _. ⌜ now (output .exit) ≡ pageBytes (aheadOf before (listedBy cursor (length (now (pow .entry))) (length (now (pos .entry)))) found (now (pos .entry))) (now (output .entry)) ⌝ }
 {
     let mut ahead = found;
     let mut last = Pattern::Empty;
@@ -117,13 +119,13 @@ fn fill(
                 last = patterns::from_positions(&pos[..k]);
                 used = patterns::put_record(&pos[..k], output, used);
                 written += 1;
-                ahead = cursor::advance(cursor, pow, first, pos, k);
+                ahead = listing::advance(cursor, pow, first, pos, k);
             }
         }
     }
 }
 
-// The page after a mark, by a cursor that is prepared.
+// The page after a mark, by a cursor that is prepared: `pos` has room for as many positions as the limit.
 fn page_by(
     cursor: Cursor,
     pow: &[u32],
@@ -136,30 +138,11 @@ fn page_by(
     ensures page { λ r. ⌜ pageResult r ≡ pageOf (remaining (listedBy cursor (length (now (pow .entry))) (length (now (pos .entry)))) (placeOf mark)) (length (now (output .entry))) ⌝ }
     ensures bytes { λ _. ⌜ now (output .exit) ≡ pageBytes (remaining (listedBy cursor (length (now (pow .entry))) (length (now (pos .entry)))) (placeOf mark)) (now (output .entry)) ⌝ }
 {
-    let found = cursor::begin(cursor, pow, first, mark, pos);
+    let found = listing::begin(cursor, pow, first, mark, pos);
     fill(cursor, pow, first, found, pos, output)
 }
 
-// The same by tables that are right: `pow` has room for a power at each bit, `pos` for as many positions as the limit.
-fn page_within(
-    g: Generator,
-    syndrome: u64,
-    steps: &[u16],
-    firsts: &[u16],
-    mark: Mark,
-    pow: &mut [u32],
-    pos: &mut [u16],
-    output: &mut [u8],
-) -> PageResult
-    requires { ⌜ Listable g (length (now pow)) syndrome (now steps) (now firsts) × (Marked (length (now pow)) (length (now pos)) (placeOf mark) × (length (now pos) ≤ mostPositions)) ⌝ }
-    ensures page { λ r. ⌜ pageResult r ≡ pageOf (remaining (listing (g .degree) (g .coefficients) (length (now (pow .entry))) (length (now (pos .entry))) syndrome) (placeOf mark)) (length (now (output .entry))) ⌝ }
-    ensures bytes { λ _. ⌜ now (output .exit) ≡ pageBytes (remaining (listing (g .degree) (g .coefficients) (length (now (pow .entry))) (length (now (pos .entry))) syndrome) (placeOf mark)) (now (output .entry)) ⌝ }
-{
-    let cursor = cursor::prepare(g, syndrome, steps, firsts, pow);
-    page_by(cursor, pow, firsts, mark, pos, output)
-}
-
-// The same in parts of larger slices.
+// The same by tables that are right: `pow` has room for a power at each bit.
 fn page_in(
     g: Generator,
     bits: usize,
@@ -169,20 +152,24 @@ fn page_in(
     firsts: &[u16],
     mark: Mark,
     pow: &mut [u32],
-    pos: &mut [u16],
     output: &mut [u8],
 ) -> PageResult
-    requires { ⌜ Listable g bits syndrome (now steps) (now firsts) × (Marked bits limit (placeOf mark) × (limit ≤ mostPositions)) × ((bits ≤ length (now pow)) × (limit ≤ length (now pos))) ⌝ }
+    requires { ⌜ Listable g bits limit syndrome (now steps) (now firsts) (placeOf mark) × (bits ≤ length (now pow)) ⌝ }
     ensures page { λ r. ⌜ pageResult r ≡ pageOf (remaining (listing (g .degree) (g .coefficients) bits limit syndrome) (placeOf mark)) (length (now (output .entry))) ⌝ }
     ensures bytes { λ _. ⌜ now (output .exit) ≡ pageBytes (remaining (listing (g .degree) (g .coefficients) bits limit syndrome) (placeOf mark)) (now (output .entry)) ⌝ }
 {
-    page_within(
-        g,
+    let period = cursor::prepare(g, bits, steps, firsts, pow);
+    let cursor = Cursor {
+        generator: g,
+        period,
         syndrome,
-        steps,
+    };
+    let mut pos = [0u16; MOST_POSITIONS];
+    page_by(
+        cursor,
+        &pow[..bits],
         firsts,
         mark,
-        &mut pow[..bits],
         &mut pos[..limit],
         output,
     )
@@ -198,12 +185,11 @@ fn list_page(
     mark: Mark,
     output: &mut [u8],
 ) -> PageResult
-    requires { ⌜ Listable g bits syndrome (now steps) (now firsts) × (Marked bits limit (placeOf mark) × (limit ≤ mostPositions)) ⌝ }
+    requires { ⌜ Listable g bits limit syndrome (now steps) (now firsts) (placeOf mark) ⌝ }
     ensures page { λ r. ⌜ pageResult r ≡ pageOf (remaining (listing (g .degree) (g .coefficients) bits limit syndrome) (placeOf mark)) (length (now (output .entry))) ⌝ }
     ensures bytes { λ _. ⌜ now (output .exit) ≡ pageBytes (remaining (listing (g .degree) (g .coefficients) bits limit syndrome) (placeOf mark)) (now (output .entry)) ⌝ }
 {
     let mut pow = [0u32; MOST_BITS];
-    let mut pos = [0u16; MOST_POSITIONS];
     page_in(
         g,
         bits,
@@ -213,7 +199,6 @@ fn list_page(
         firsts,
         mark,
         &mut pow,
-        &mut pos,
         output,
     )
 }

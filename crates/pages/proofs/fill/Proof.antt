@@ -7,15 +7,17 @@ use borrow.Author.Needs.{needs}
 use lib.ListN.{length, take}
 use lib.Seq.{length-take-le}
 use Rattle.patterns.proofs.PageLaws.{record-length}
-use Rattle.cursor.specs.Cursors.{listedBy, aheadOf}
+use Rattle.patterns.specs.Order.{before}
+use Rattle.cursor.specs.Cursors.{aheadOf}
 use Rattle.cursor.proofs.AheadLaws.{told-from}
+use Rattle.listing.specs.Listings.{listedBy}
 use Rattle.pages.proofs.FillLaws.{Filling, filling-none, filling-more, filled-page, filled-bytes, stopped-page, stopped-bytes, found-within, fits-room}
 use Rattle.pages.proofs.fill.Statement.{statement}
 use Rattle.pages.proofs.fill.Tie as tie
 
 abbrev Inv-loop : tie.InvT-loop
 Inv-loop cursor pow first pos₀ output₀ ahead₀ last₀ used₀ written₀ pos output ahead last used written =
-    Filling (length pow) (length pos₀) (listedBy cursor (length pow) (length pos₀)) (aheadOf (listedBy cursor (length pow) (length pos₀)) ahead₀ pos₀)
+    Filling (length pow) (length pos₀) (listedBy cursor (length pow) (length pos₀)) (aheadOf before (listedBy cursor (length pow) (length pos₀)) ahead₀ pos₀)
     output₀ pos output ahead last used written
 
 abbrev μ-loop : tie.MeasureT-loop
@@ -104,7 +106,7 @@ loop-again c =
     (c .before .before .before .before .before .before .before .before .before .from-positions .result) (c .before .before .before .before .before .before .before .before .before .from-positions .ensures)
     (c .before .before .before .before .before .before .put-record .result) (c .before .before .before .before .before .before .put-record .last .1 .0) (a .advance .last .1 .1 .1 .0) (c .before .before .before .before .before .before .put-record .ensures)
     (a .advance .result)
-    (told-from (s .args .cursor .generator .degree) (s .args .cursor .generator .coefficients) (length (s .args .pow .now)) (s .args .cursor .syndrome)
+    (told-from before (listedBy (s .args .cursor) (length (s .args .pow .now))) (length (s .args .pow .now))
     (a .advance .result) (a .advance .last .1 .1 .1 .0) (f .placed) refl (a .advance .ensures))
     (l ∙ f .placed) (o ∙ f .long)
 

@@ -16,7 +16,7 @@ use Rattle.patterns.specs.Listing.{listing}
 use Rattle.patterns.specs.Marks.{remaining}
 use Rattle.patterns.specs.Pages.{pageOf, pageBytes}
 use Rattle.patterns.proofs.MarkLaws.{fit-limit, fit-syndrome}
-use Rattle.cursor.proofs.AheadLaws.{fit-mark}
+use Rattle.listing.proofs.MarkedLaws.{fit-mark}
 use Rattle.pages.specs.Conditions.{Request, pageRequest, pageConditions}
 use Rattle.pages.proofs.page.Statement.{statement}
 use Rattle.pages.proofs.page.Tie as tie
@@ -42,16 +42,13 @@ list-page-requires c κs =
     let n : ℕ = degree (a .generator) in
     let clear = none-applies (conditions s) (j .judge-page .ensures) (o .before .enum-told .given .1) in
     let right = right-unless-wrong n (a .generator) (a .steps .now) (a .firsts .now) (clear 6) in
-    rw (o .of .ensures) (
-      record {
-        fit = fit-accepted (a .generator) (clear 1);
-        short = fit-length n (a .bits) (clear 2) .1;
-        within = fit-syndrome n (a .syndrome) (clear 4);
-        rightSteps = right .0;
-        rightFirsts = right .1;
-      },
-      (fit-mark (a .bits) (a .limit) (placeOf (a .mark)) (clear 7), fit-limit (a .limit) (clear 3)),
-    )
+    rw (o .of .ensures) (record {
+      right = record { fit = fit-accepted (a .generator) (clear 1); rightSteps = right .0; rightFirsts = right .1 };
+      short = fit-length n (a .bits) (clear 2) .1;
+      few = fit-limit (a .limit) (clear 3);
+      within = fit-syndrome n (a .syndrome) (clear 4);
+      marked = fit-mark (a .bits) (a .limit) (placeOf (a .mark)) (clear 7);
+    })
 
 returns : tie.Need-returns
 returns c =

@@ -1,7 +1,8 @@
--- `page_in` lends the parts of the two slices that `page_within` fills.
+-- `page_in` prepares a cursor, and lends the parts of the powers and of the positions that the page needs.
 use mathlib.Core.Path.{_≡_, sym, ap, ap₂, subst₂, _∙_}
 use mathlib.Core.List.{List}
 use Prim.Native.Nat.{ℕ, _≤_}
+use native.Mathlib.Omega.{arith}
 use borrow.Author.Needs.{needs}
 use lib.ListN.{length, take}
 use lib.Seq.{length-take-le}
@@ -9,48 +10,57 @@ use Rattle.patterns.specs.Patterns.{mostPositions, placeOf}
 use Rattle.patterns.specs.Listing.{listing}
 use Rattle.patterns.specs.Marks.{remaining}
 use Rattle.patterns.specs.Pages.{pageOf, pageBytes}
-use Rattle.cursor.specs.Cursors.{Listable, Marked}
+use Rattle.cursor.specs.Cursors.{Serves}
+use Rattle.cursor.proofs.LookupLaws.{as-long, prepared}
+use Rattle.listing.specs.Listings.{Marked}
 use Rattle.pages.proofs.page_in.Statement.{statement}
 use Rattle.pages.proofs.page_in.Tie as tie
 
-slice-aggregate-page-within : tie.Need-slice-aggregate-page-within
-slice-aggregate-page-within c = sym (length-take-le _ _ (c .before .before .before .before .before .before .pre .2 .0))
+abbrev entry : tie.After-prepare → tie.Start
+entry c = c .before .before .before .before .before .before
 
-slice-aggregate-page-within-2 : tie.Need-slice-aggregate-page-within-2
-slice-aggregate-page-within-2 c = sym (length-take-le _ _ (c .before .before .before .before .before .before .before .pre .2 .1))
+-- the powers that were filled in, as they are lent
+abbrev powers : tie.After-prepare → List ℕ
+powers c = take (entry c .args .bits) (c .prepare .last .1 .1 .1 .1 .0)
 
-page-within-requires : tie.Need-page-within-requires
-page-within-requires c κs =
-    let s = c .before .before .before .before .before .before .before .before in
-    let a = s .args in
-    let p = length-take-le (a .bits) (a .pow .now) (s .pre .2 .0) in
-    let q = length-take-le (a .limit) (a .pos .now) (s .pre .2 .1) in
-    subst₂ (λ (l m : ℕ). Listable (a .g) l (a .syndrome) (a .steps .now) (a .firsts .now) × (Marked l m (placeOf (a .mark)) × (m ≤ mostPositions))) (sym p) (sym q)
-    (s .pre .0, s .pre .1)
+many : (c : tie.After-prepare) → length (powers c) ≡ entry c .args .bits
+many c = as-long (c .prepare .ensures)
+
+slice-aggregate-page-by : tie.Need-slice-aggregate-page-by
+slice-aggregate-page-by c = sym (many (c .before .before .before))
+
+slice-aggregate-page-by-2 : tie.Need-slice-aggregate-page-by-2
+slice-aggregate-page-by-2 c = sym (length-take-le _ _ (omega (arith, entry (c .before .before .before .before) .pre .0 .few)))
+
+page-by-requires : tie.Need-page-by-requires
+page-by-requires c κs =
+    let p = c .before .before .before .before .before in
+    let h = entry p .pre .0 in
+    let a = entry p .args in (
+      prepared (p .prepare .ensures) (a .syndrome) (h .within),
+      subst₂ (λ (l m : ℕ). Marked l m (placeOf (a .mark)) × (m ≤ mostPositions)) (sym (many p)) (sym (length-take-le _ _ (h .few))) (h .marked, h .few),
+    )
 
 returns : tie.Need-returns
 returns c =
-    let s = c .before .before .before .before .before .before .before .before .before .before .before .before .before .before .before in
-    let a = s .args in
-    let w = c .before .before .before .before .before .before .page-within .ensures in
-    let e : listing (a .g .degree) (a .g .coefficients) (length (take (a .bits) (a .pow .now))) (length (take (a .limit) (a .pos .now))) (a .syndrome)
-    ≡ listing (a .g .degree) (a .g .coefficients) (a .bits) (a .limit) (a .syndrome) =
-    ap₂ (λ (l m : ℕ). listing (a .g .degree) (a .g .coefficients) l m (a .syndrome)) (length-take-le (a .bits) (a .pow .now) (s .pre .2 .0))
-    (length-take-le (a .limit) (a .pos .now) (s .pre .2 .1)) in (
-      w .0 ∙ ap (λ (t : List (List ℕ)). pageOf (remaining t (placeOf (a .mark))) (length (a .output .now))) e,
-      w .1 ∙ ap (λ (t : List (List ℕ)). pageBytes (remaining t (placeOf (a .mark))) (a .output .now)) e,
+    let f = c .before .before .before in
+    let p = f .before .before .before .before .before .before in
+    let a = entry p .args in
+    let e = ap₂ (λ (l m : ℕ). remaining (listing (a .g .degree) (a .g .coefficients) l m (a .syndrome)) (placeOf (a .mark))) (many p) (length-take-le _ _ (entry p .pre .0 .few)) in (
+      f .page-by .ensures .0 ∙ ap (λ (t : List (List ℕ)). pageOf t (length (a .output .now))) e,
+      f .page-by .ensures .1 ∙ ap (λ (t : List (List ℕ)). pageBytes t (a .output .now)) e,
     )
 
 pub page-in-spec : {M : Type 1} → statement M
 page-in-spec =
     tie.close
     (tie.spec
+    (λ c κs. search needs)
     (λ c. search needs)
-    slice-aggregate-page-within
+    slice-aggregate-page-by
     (λ c. search needs)
-    slice-aggregate-page-within-2
-    page-within-requires
-    (λ c. search needs)
+    slice-aggregate-page-by-2
+    page-by-requires
     (λ c. search needs)
     (λ c. search needs)
     returns)
