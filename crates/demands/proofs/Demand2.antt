@@ -40,7 +40,7 @@ use Rattle.tables.proofs.StepLaws.{step-is, step-inverts}
 use Rattle.tables.proofs.PeriodLaws.{period-positive, power-period, period-least}
 use Rattle.tables.proofs.FirstLaws.{first-hit, first-least, first-none, first-zero}
 use Rattle.tables.proofs.TableLaws.{length-stepTable, length-firstTable, getD-stepTable, getD-firstTable}
-use Rattle.repair.specs.Verdicts.{passesBoth}
+use Rattle.verdicts.specs.Verdicts.{passesBoth}
 use Rattle.demands.specs.Demand2.{Numbered, Reads, Remains, Stepped, FirstAt, IsPeriod}
 use Rattle.demands.proofs.ReadBits.{bits-read}
 

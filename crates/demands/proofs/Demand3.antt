@@ -33,10 +33,10 @@ use Rattle.pages.specs.Calls.{pageCall}
 use Rattle.pages.specs.Sequences.{Lending, requestWith, acceptedCalls}
 use Rattle.pages.proofs.PageTheorem.{page-accepts}
 use Rattle.pages.proofs.SequenceTheorem.{page-sequence, sequence-accepted}
-use Rattle.repair.specs.Verdicts.{passesBoth, packetList, Said, intact, repaired, several, nothing, verdict, outputFor, Leads, leading, Earliest}
+use Rattle.verdicts.specs.Verdicts.{passesBoth, packetList, Said, intact, repaired, several, nothing, verdict, outputFor, Leads, leading, Earliest}
 use Rattle.repair.specs.Calls.{repairConditions, repairCall, repairOutput, unfitCopy}
-use Rattle.repair.proofs.VerdictLaws.{verdict-intact, verdict-nothing, verdict-repaired, verdict-several, output-repaired, output-unchanged, in-leading, leading-sorted, two-lead}
-use Rattle.repair.proofs.SentLaws.{sent-packet, sent-flipped}
+use Rattle.verdicts.proofs.VerdictLaws.{verdict-intact, verdict-nothing, verdict-repaired, verdict-several, output-repaired, output-unchanged, in-leading, leading-sorted, two-lead}
+use Rattle.verdicts.proofs.SentLaws.{sent-packet, sent-flipped}
 use Rattle.demands.specs.Demand3.{Supposed, repairWith, Roomy}
 
 pub fit-of : {c : Crc} {k : Check} {limit : ℕ} {s : List ℕ} → Supposed c k limit s → Fit (c .generator)

@@ -19,10 +19,10 @@ use Rattle.maker.proofs.StreamLaws.{yielded-bytes}
 use Rattle.maker.proofs.MadeLaws.{made-length, made-bytes, stamp-accepts, made-by-calls}
 use Rattle.tables.specs.Tables.{stepTable, firstTable}
 use Rattle.patterns.specs.Listing.{unfitLimit}
-use Rattle.repair.specs.Verdicts.{passesBoth, intact}
+use Rattle.verdicts.specs.Verdicts.{passesBoth, intact}
 use Rattle.repair.specs.Calls.{repairCall}
 use Rattle.repair.proofs.ConditionLaws.{stamp-field-fits}
-use Rattle.repair.proofs.VerdictLaws.{verdict-intact}
+use Rattle.verdicts.proofs.VerdictLaws.{verdict-intact}
 use Rattle.demands.specs.Demand3.{Supposed, repairWith}
 use Rattle.demands.proofs.Demand2.{stamp-and-seal}
 use Rattle.demands.proofs.Demand3.{repair-accepted}

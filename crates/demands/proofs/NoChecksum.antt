@@ -24,10 +24,10 @@ use Rattle.maker.specs.Calls.{makeConditions, makeCall}
 use Rattle.tables.specs.Tables.{stepTable, firstTable}
 use Rattle.patterns.proofs.SiftLaws.{sift-all}
 use Rattle.pages.specs.Sequences.{Lending}
-use Rattle.repair.specs.Verdicts.{passesBoth, packetList, candidates, Said, intact, repaired, several, nothing, verdict, Leads, leading, Earliest}
+use Rattle.verdicts.specs.Verdicts.{passesBoth, packetList, candidates, Said, intact, repaired, several, nothing, verdict, Leads, leading, Earliest}
 use Rattle.repair.specs.Calls.{Repair, repairConditions, repairCall, repairOutput}
 use Rattle.repair.proofs.ConditionLaws.{empty-check-field-fits}
-use Rattle.repair.proofs.VerdictLaws.{passes-by-crc, candidates-leading, earliest-same}
+use Rattle.verdicts.proofs.VerdictLaws.{passes-by-crc, candidates-leading, earliest-same}
 use Rattle.demands.specs.CrcAlone.{crcRepairCall, crcRepairOutput}
 use Rattle.demands.specs.Demand3.{Supposed, repairWith}
 use Rattle.demands.proofs.Demand3.{fit-of, repair-accepted, the-leading, says-intact, says-otherwise, the-packet-sent, the-bits-flipped}

@@ -14,10 +14,10 @@ use Rattle.packet.specs.declared.SealAnswer.the-variants as SealAnswer-cases
 use Rattle.patterns.specs.Patterns.{positions}
 use Rattle.patterns.specs.declared.Pattern.{Pattern}
 use Rattle.patterns.specs.declared.Pattern.the-variants.{Empty, One, Two, Three, Four}
-use Rattle.repair.specs.Verdicts.{Said, intact, repaired, several, nothing, said}
+use Rattle.verdicts.specs.Verdicts.{Said, intact, repaired, several, nothing, said}
 use Rattle.repair.specs.Calls.{Repair, repairAnswer, repairCall, repairOutput}
-use Rattle.repair.specs.declared.Verdict.{Verdict}
-use Rattle.repair.specs.declared.Verdict.the-variants.{Intact, Repaired, Several, None}
+use Rattle.verdicts.specs.declared.Verdict.{Verdict}
+use Rattle.verdicts.specs.declared.Verdict.the-variants.{Intact, Repaired, Several, None}
 use Rattle.repair.specs.declared.RepairAnswer.{RepairAnswer}
 use Rattle.repair.specs.declared.RepairAnswer.the-variants as RepairAnswer-cases
 

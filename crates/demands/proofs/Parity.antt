@@ -24,9 +24,9 @@ use Rattle.patterns.specs.Records.{records}
 use Rattle.patterns.specs.Sequences.{joined, reported}
 use Rattle.patterns.proofs.ParityLaws.{count-parity, listed-parity, counts-differ-by-even}
 use Rattle.pages.specs.Sequences.{Lending, acceptedCalls}
-use Rattle.repair.specs.Verdicts.{packetList, Said, repaired, several, verdict}
+use Rattle.verdicts.specs.Verdicts.{packetList, Said, repaired, several, verdict}
 use Rattle.repair.specs.Calls.{repairCall, repairConditions}
-use Rattle.repair.proofs.VerdictLaws.{verdict-repaired, verdict-several}
+use Rattle.verdicts.proofs.VerdictLaws.{verdict-repaired, verdict-several}
 use Rattle.demands.specs.Demand2.{Numbered}
 use Rattle.demands.specs.Demand3.{Supposed, repairWith}
 use Rattle.demands.proofs.Demand2.{flips-add}

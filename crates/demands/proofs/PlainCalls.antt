@@ -11,7 +11,7 @@ use Rattle.packet.specs.Packet.{unfitValues, remainder, sealed}
 use Rattle.packet.specs.Calls.{remainderCall, sealCall, sealPacket}
 use Rattle.packet.specs.declared.Crc.{Crc}
 use Rattle.packet.proofs.ReadLaws.{read-plain}
-use Rattle.repair.specs.Verdicts.{passesBoth, candidates}
+use Rattle.verdicts.specs.Verdicts.{passesBoth, candidates}
 use Rattle.repair.specs.Calls.{Repair, repairCall, repairOutput}
 use Rattle.demands.specs.Plain.{plainRemainder, plainRemainderCall, plainSealCall, plainSealPacket, plainRepairCall, plainRepairOutput}
 

@@ -17,9 +17,9 @@ use Rattle.checksum.specs.Calls.{sumCall}
 use Rattle.checksum.specs.declared.Check.{Check}
 use Rattle.checksum.proofs.RangeLaws.{zero-field-passes, sum-decides}
 use Rattle.pages.specs.Sequences.{Lending}
-use Rattle.repair.specs.Verdicts.{passesBoth, packetList, Said, intact, repaired, nothing, Leads}
+use Rattle.verdicts.specs.Verdicts.{passesBoth, packetList, Said, intact, repaired, nothing, Leads}
 use Rattle.repair.specs.Calls.{repairCall, repairOutput}
-use Rattle.repair.proofs.VerdictLaws.{both-passed, passes-by-crc, listed-passes}
+use Rattle.verdicts.proofs.VerdictLaws.{both-passed, passes-by-crc, listed-passes}
 use Rattle.demands.specs.Demand3.{Supposed, repairWith}
 use Rattle.demands.proofs.Demand3.{fit-of, says-intact, the-packet-sent, the-bits-flipped}
 use Rattle.demands.proofs.NoChecksum.{intact-by-crc}

@@ -5,7 +5,7 @@ use Prim.Native.Nat.{ℕ}
 use lib.Dec.{eqb}
 use Rattle.base.specs.Outcome.{Outcome, refused, accepted, pick, judge}
 use Rattle.packet.specs.Packet.{remainder}
-use Rattle.repair.specs.Verdicts.{packetList, Said, intact, settled, mended}
+use Rattle.verdicts.specs.Verdicts.{packetList, Said, intact, settled, mended}
 use Rattle.repair.specs.Calls.{Repair, repairConditions}
 use Rattle.demands.specs.Plain.{without}
 

@@ -13,7 +13,7 @@ use Rattle.packet.specs.Calls.{packetConditions}
 use Rattle.packet.specs.declared.Crc.{Crc}
 use Rattle.checksum.specs.Checksum.{passes}
 use Rattle.patterns.specs.Listing.{listing, sift}
-use Rattle.repair.specs.Verdicts.{Said, intact, settled, mended}
+use Rattle.verdicts.specs.Verdicts.{Said, intact, settled, mended}
 use Rattle.repair.specs.Calls.{Repair, repairConditions}
 
 -- what division leaves of the packet itself

@@ -17,7 +17,7 @@ use Rattle.maker.specs.Calls.{makeCall, makePacket}
 use Rattle.patterns.specs.Patterns.{after}
 use Rattle.patterns.specs.Listing.{listing}
 use Rattle.patterns.specs.Marks.{remaining}
-use Rattle.repair.specs.Verdicts.{packetList, intact, repaired, several, nothing, verdict}
+use Rattle.verdicts.specs.Verdicts.{packetList, intact, repaired, several, nothing, verdict}
 
 -- the list for a generator, L, N and a syndrome
 abbrev pub listOf : Generator → ℕ → ℕ → ℕ → List (List ℕ)

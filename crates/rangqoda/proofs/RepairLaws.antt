@@ -14,7 +14,7 @@ use Rattle.packet.specs.Packet.{bits, unfitLength}
 use Rattle.packet.specs.declared.Crc.{Crc}
 use Rattle.packet.proofs.PacketLaws.{fit-length}
 use Rattle.checksum.specs.declared.Check.{Check}
-use Rattle.repair.specs.Verdicts.{Said, verdict}
+use Rattle.verdicts.specs.Verdicts.{Said, verdict}
 use Rattle.repair.specs.Calls.{Repair, repairRequest, repairConditions, repairCall, repairOutput}
 use Rattle.repair.proofs.ConditionLaws.{copy-unfit, fit-copy}
 use Rattle.rangqoda.specs.Verdicts.{verdictLength}

@@ -13,9 +13,9 @@ use Rattle.patterns.specs.Patterns.{mostPositions, positions}
 use Rattle.patterns.specs.Records.{recordOf, longestRecord}
 use Rattle.patterns.proofs.PageLaws.{record-length}
 use Rattle.patterns.proofs.PositionLaws.{positions-most}
-use Rattle.repair.specs.declared.Verdict.{Verdict}
-use Rattle.repair.specs.declared.Verdict.the-variants.{Intact, Repaired, Several, None}
-use Rattle.repair.specs.Verdicts.{said}
+use Rattle.verdicts.specs.declared.Verdict.{Verdict}
+use Rattle.verdicts.specs.declared.Verdict.the-variants.{Intact, Repaired, Several, None}
+use Rattle.verdicts.specs.Verdicts.{said}
 use Rattle.repair.specs.Calls.{handedBack}
 use Rattle.rangqoda.specs.Marks.{padded}
 use Rattle.rangqoda.specs.Verdicts.{verdictLength, laid, verdictBytes, publishCode, published}

@@ -4,7 +4,7 @@ use mathlib.Core.List.{List, _++_}
 use lib.Dec.{eqb}
 use lib.ListN.{length, take, drop}
 use Rattle.base.specs.Outcome.{Outcome, pick}
-use Rattle.repair.specs.Verdicts.{Said}
+use Rattle.verdicts.specs.Verdicts.{Said}
 use Rattle.packet.specs.declared.Crc.{Crc}
 use Rattle.checksum.specs.declared.Check.{Check}
 use Rattle.repair.specs.Calls.{Repair, repairRequest, repairOutput}

@@ -6,7 +6,7 @@ use lib.ListN.{length, getD}
 use Rattle.base.specs.Outcome.{pick}
 use Rattle.packet.specs.Packet.{bytes}
 use Rattle.patterns.specs.Records.{recordOf, longestRecord}
-use Rattle.repair.specs.Verdicts.{Said, intact, repaired, several, nothing}
+use Rattle.verdicts.specs.Verdicts.{Said, intact, repaired, several, nothing}
 use Rattle.rangqoda.specs.Marks.{padded}
 
 -- how many bytes there are

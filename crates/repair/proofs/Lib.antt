@@ -1,4 +1,1 @@
-pub mod TallyLaws
 pub mod ConditionLaws
-pub mod VerdictLaws
-pub mod SentLaws

@@ -15,7 +15,7 @@ use Rattle.tables.specs.Tables.{unfitTables, wrongTables}
 use Rattle.checksum.specs.Checksum.{unfitRange, unfitField}
 use Rattle.checksum.specs.declared.Check.{Check}
 use Rattle.patterns.specs.Listing.{unfitLimit}
-use Rattle.repair.specs.Verdicts.{Said, intact, repaired, several, nothing, said, verdict, outputFor}
+use Rattle.verdicts.specs.Verdicts.{Said, intact, repaired, several, nothing, said, verdict, outputFor}
 use Rattle.repair.specs.declared.RepairAnswer.{RepairAnswer}
 use Rattle.repair.specs.declared.RepairAnswer.the-variants.{Decided, Refused}
 

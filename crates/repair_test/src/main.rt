@@ -8,7 +8,7 @@
 use checksum::Check;
 use libc::STDIN_FILENO;
 use repair::RepairAnswer;
-use repair::Verdict;
+use verdicts::Verdict;
 
 // What every call of a case is given.
 struct Setting {

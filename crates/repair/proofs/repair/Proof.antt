@@ -15,7 +15,7 @@ use Rattle.packet.proofs.ReadLaws.{fit-readable}
 use Rattle.checksum.proofs.ConditionLaws.{fit-range}
 use Rattle.tables.proofs.TableLaws.{right-unless-wrong}
 use Rattle.patterns.proofs.MarkLaws.{fit-limit}
-use Rattle.repair.specs.Verdicts.{verdict, outputFor}
+use Rattle.verdicts.specs.Verdicts.{verdict, outputFor}
 use Rattle.repair.specs.Calls.{Repair, repairRequest, repairConditions}
 use Rattle.repair.proofs.ConditionLaws.{fit-copy, fit-check-field}
 use Rattle.repair.proofs.repair.Statement.{statement}
@@ -29,8 +29,8 @@ request s =
 abbrev entry : tie.After-judge-repair → tie.Start
 entry c = c .before .before .before .before .before .before
 
-conclude-requires : tie.Need-conclude-requires
-conclude-requires c κs =
+repair-by-requires : tie.Need-repair-by-requires
+repair-by-requires c κs =
     let m = c .before in
     let j = m .before .before .before in
     let s = entry j in
@@ -40,19 +40,19 @@ conclude-requires c κs =
     let b : Bytes p = λ i. omega (arith, j .before .before .before .shared-slice-known3 .given i) in
     let clear = none-applies (repairConditions (request s)) (j .judge-repair .ensures) (m .before .enum-told .given .1) in
     let right = right-unless-wrong n (a .generator) (a .steps .now) (a .firsts .now) (clear 6) in
+    let readable = fit-readable (a .generator) (a .init) (a .xorout) p (clear 1) (clear 2) (clear 11) in
     let range = fit-range n (8 * length p) (a .check) (clear 9) in
     rw (m .crc-of .ensures) (
       record {
-        readable = fit-readable (a .generator) (a .init) (a .xorout) p (clear 1) (clear 2) (clear 11);
-        bytes = b;
+        readable = readable;
+        bytewise = b;
         short = omega (arith, fit-length n (8 * length p) (clear 2) .1);
         few = fit-limit (a .limit) (clear 3);
         ordered = range .ordered;
         inside = omega (arith, range .whole);
         fieldInside = λ h. fit-check-field (a .check) (clear 10) (omega (arith, h, range .ordered)) .within;
-        rightSteps = right .0;
-        rightFirsts = right .1;
       },
+      record { fit = readable .fit; rightSteps = right .0; rightFirsts = right .1 },
       fit-copy (length (a .output .now)) (length p) (clear 8),
     )
 
@@ -73,9 +73,9 @@ returns-2 c =
     let r = request (entry j) in
     let e = j .judge-repair .ensures in
     let h = m .before .enum-told .given .1 in (
-      ap accepted (f .conclude .ensures .0 ∙ ap (λ (k : Crc). verdict k (r .check) (r .limit) (r .packet)) (m .crc-of .ensures))
+      ap accepted (f .repair-by .ensures .0 ∙ ap (λ (k : Crc). verdict k (r .check) (r .limit) (r .packet)) (m .crc-of .ensures))
           ∙ sym (let-through (repairConditions r) e h refused (accepted (verdict (r .crc) (r .check) (r .limit) (r .packet)))),
-      f .conclude .ensures .1
+      f .repair-by .ensures .1
           ∙ ap (λ (k : Crc). outputFor k (r .check) (r .limit) (r .packet) (r .output)) (m .crc-of .ensures)
           ∙ sym (let-through (repairConditions r) e h (λ _. r .output) (outputFor (r .crc) (r .check) (r .limit) (r .packet) (r .output))),
     )
@@ -88,7 +88,7 @@ repair-spec =
     (λ c. search needs)
     (λ c. search needs)
     (λ c κs. search needs)
-    conclude-requires
+    repair-by-requires
     (λ c. search needs)
     returns
     (λ c. search needs)

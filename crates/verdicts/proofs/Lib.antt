@@ -1,0 +1,3 @@
+pub mod TallyLaws
+pub mod VerdictLaws
+pub mod SentLaws
