@@ -110,17 +110,17 @@ module _ (rest : List (List ℕ)) (out : List ℕ) where
   pub page-fits : pageOf rest (length out) .used ≤ length out
   page-fits = fitting-used (length out) rest
 
-  pub page-length : length (pageBytes rest out) ≡ length out
-  page-length =
-      length-append (records (fitting (length out) rest)) (drop (length (records (fitting (length out) rest))) out)
-      ∙ omega (arith, length-drop (length (records (fitting (length out) rest))) out, fitting-used (length out) rest)
-
   -- the bytes used are the records, and the others stay
   pub page-used : take (pageOf rest (length out) .used) (pageBytes rest out) ≡ records (fitting (length out) rest)
   page-used = take-append-seam (records (fitting (length out) rest)) _
 
   pub page-kept : drop (pageOf rest (length out) .used) (pageBytes rest out) ≡ drop (pageOf rest (length out) .used) out
   page-kept = drop-append-seam (records (fitting (length out) rest)) _
+
+  pub page-length : length (pageBytes rest out) ≡ length out
+  page-length =
+      length-append (records (fitting (length out) rest)) (drop (length (records (fitting (length out) rest))) out)
+      ∙ omega (arith, length-drop (length (records (fitting (length out) rest))) out, fitting-used (length out) rest)
 
 -- ---- record by record ----
 

@@ -59,17 +59,18 @@ module _ {power : ℕ → ℕ} {first : List ℕ} {period : ℕ} (t : Firsts pow
         none q a c (zero, e) = let m : l ≤ getD first u 0 = h (omega arith) in omega arith
         none q a c (suc k, e) = omega (arith, suc-mul k period)
 
+    -- k periods on from the first, for the least k that reaches lo
     pub near-period : (l lo : ℕ) → l ≤ 4096 → getD first u 0 < lo → lo ≤ l → 1 ≤ period
-        → Nearest power l lo u (getD first u 0 + (lo - getD first u 0 + period - 1) / period * period)
-    near-period l lo s h b p =
+        → {p : ℕ} → p ≡ getD first u 0 + (lo - getD first u 0 + period - 1) / period * period → Nearest power l lo u p
+    near-period l lo s h b positive {p} is =
         record {
-          skipped = λ q a d c e. below q a d (periods-on q e (omega arith));
-          met = λ x. (omega (arith, bounds), again-many (getD first u 0) ((lo - getD first u 0 + period - 1) / period) ∙ t .hit u within (omega arith));
+          skipped = λ q a d c e. below q a (omega arith) (periods-on q e (omega arith));
+          met = λ x. (omega (arith, bounds), ap power is ∙ again-many (getD first u 0) ((lo - getD first u 0 + period - 1) / period) ∙ t .hit u within (omega arith));
         }
       where
         bounds : (lo - getD first u 0 ≤ (lo - getD first u 0 + period - 1) / period * period)
             × ((lo - getD first u 0 + period - 1) / period * period < lo - getD first u 0 + period)
-        bounds = reach-bounds (lo - getD first u 0) period p
+        bounds = reach-bounds (lo - getD first u 0) period positive
 
         below : (q : ℕ) → lo ≤ q → q < getD first u 0 + (lo - getD first u 0 + period - 1) / period * period → (k : ℕ) × (q ≡ getD first u 0 + k * period) → ⊥
         below q a d (k, e) =

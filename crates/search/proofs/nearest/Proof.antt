@@ -1,7 +1,9 @@
 -- `nearest` returns the nearest position: its first one, none below the length, or the first one some periods on.
-use Prim.Native.Nat.{_-_, _<_}
+use mathlib.Core.Path.{_≡_}
+use Prim.Native.Nat.{ℕ, _+_, _-_, _*_, _/_, _<_, _≤_}
 use borrow.Author.Needs.{needs}
 use native.Mathlib.Omega.{arith}
+use native.Mathlib.Nat.{mul-comm}
 use lib.ListN.{length, getD}
 use Rattle.search.proofs.NearestLaws.{reach-bounds, near-first, near-none, near-period}
 use Rattle.search.proofs.nearest.Statement.{statement}
@@ -35,20 +37,27 @@ returns-3 c power t =
     let s = c .before .before .before .before in
     near-first (t .firsts) (s .args .u) (inside s) (length (s .args .pow .now)) (s .args .lo) (s .pre .shape .short) (c .if3 .taken)
 
-mul-result : tie.Need-mul-result
-mul-result c =
+-- how far the periods reach; either factor of their product may stand first
+reaches : (c : tie.Else3) → let s = c .before .before .before .before in
+    let d = s .args .lo - getD (s .args .first .now) (s .args .u) 0 in
+    let k = (d + s .args .period - 1) / s .args .period in
+    ((d ≤ k * s .args .period) × (k * s .args .period < d + s .args .period)) × (s .args .period * k ≡ k * s .args .period)
+reaches c =
     let s = c .before .before .before .before in
-    omega (arith, reach-bounds (s .args .lo - getD (s .args .first .now) (s .args .u) 0) (s .args .period) (s .pre .index .positive))
+    let d : ℕ = s .args .lo - getD (s .args .first .now) (s .args .u) 0 in
+    (reach-bounds d (s .args .period) (s .pre .index .positive), mul-comm (s .args .period) ((d + s .args .period - 1) / s .args .period))
+
+mul-result : tie.Need-mul-result
+mul-result c = omega (arith, reaches c)
 
 add-result-2 : tie.Need-add-result-2
-add-result-2 c =
-    let s = c .before .before .before .before in
-    omega (arith, reach-bounds (s .args .lo - getD (s .args .first .now) (s .args .u) 0) (s .args .period) (s .pre .index .positive))
+add-result-2 c = omega (arith, reaches c)
 
 returns-4 : tie.Need-returns-4
 returns-4 c power t =
     let s = c .before .before .before .before in
     near-period (t .firsts) (s .args .u) (inside s) (length (s .args .pow .now)) (s .args .lo) (s .pre .shape .short) (c .if3 .left) (s .pre .start) (s .pre .index .positive)
+    (omega (arith, reaches c))
 
 pub nearest-spec : {M : Type 1} → statement M
 nearest-spec =
