@@ -21,7 +21,8 @@ use Rattle.tables.proofs.TableLaws.{length-values, getD-values, length-firstTab
 use Rattle.patterns.specs.Listing.{syndrome, upTo}
 use Rattle.patterns.specs.Walk.{byPositions, walk}
 use Rattle.patterns.proofs.SiftLaws.{sift-same}
-use Rattle.search.specs.Search.{xorAll, summing, walked, Told, OddOnes}
+use Rattle.placing.specs.Placing.{xorAll, summing}
+use Rattle.search.specs.Search.{walked, Told, OddOnes}
 use Rattle.search.specs.declared.Found.{Found}
 use Rattle.cursor.specs.Cursors.{Serves, Prepared}
 use Rattle.cursor.specs.declared.Cursor.{Cursor}

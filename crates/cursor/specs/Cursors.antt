@@ -10,7 +10,7 @@ use Rattle.poly.specs.declared.Generator.{Generator}
 use Rattle.tables.specs.Tables.{power, values, period, stepTable, firstTable}
 use Rattle.patterns.specs.Listing.{sift}
 use Rattle.patterns.specs.Walk.{walk}
-use Rattle.search.specs.Search.{Ready, Lookup}
+use Rattle.placing.specs.Placing.{Ready, Lookup}
 use Rattle.search.specs.declared.Found.{Found}
 use Rattle.search.specs.declared.Found.the-variants.{At, Nothing}
 use Rattle.cursor.specs.declared.Cursor.{Cursor}

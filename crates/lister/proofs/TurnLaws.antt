@@ -26,8 +26,9 @@ use Rattle.patterns.proofs.CountLaws.{listing-fits}
 use Rattle.patterns.proofs.RecordLaws.{patterns-records}
 use Rattle.pages.specs.Conditions.{Request}
 use Rattle.pages.specs.Sequences.{Lending, requestWith}
-use Rattle.pages.specs.Calls.{pageResult, pageAnswer, pageCall, pageLeft}
-use Rattle.pages.specs.declared.PageResult.{PageResult}
+use Rattle.paging.specs.Results.{pageResult}
+use Rattle.paging.specs.declared.PageResult.{PageResult}
+use Rattle.pages.specs.Calls.{pageAnswer, pageCall, pageLeft}
 use Rattle.pages.specs.declared.PageAnswer.{PageAnswer}
 use Rattle.pages.specs.declared.PageAnswer.the-variants.{Paged, Refused}
 use Rattle.pages.proofs.PageTheorem.{page-accepts, page-holds, page-within, page-keeps, page-next, page-goes-on, page-mark-fits}

@@ -1,4 +1,3 @@
-pub mod FillLaws
 pub mod ConditionLaws
 pub mod PageTheorem
 pub mod SequenceTheorem

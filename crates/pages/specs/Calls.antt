@@ -4,18 +4,14 @@ use mathlib.Core.List.{List}
 use Rattle.base.specs.Outcome.{Outcome, refused, accepted}
 use Rattle.base.specs.Refusals.{number}
 use Rattle.poly.specs.Polynomial.{degree}
-use Rattle.patterns.specs.Patterns.{Place, placeOf}
+use Rattle.patterns.specs.Patterns.{Place}
 use Rattle.patterns.specs.Listing.{listing}
 use Rattle.patterns.specs.Marks.{remaining}
 use Rattle.patterns.specs.Pages.{Page, pagedBy, leftBy}
+use Rattle.paging.specs.Results.{pageResult}
 use Rattle.pages.specs.Conditions.{Request, pageConditions}
-use Rattle.pages.specs.declared.PageResult.{PageResult}
 use Rattle.pages.specs.declared.PageAnswer.{PageAnswer}
 use Rattle.pages.specs.declared.PageAnswer.the-variants.{Paged, Refused}
-
--- the values of an accepted call's answer
-abbrev pub pageResult : PageResult → Page
-pageResult r = record { used = r .used; written = r .written; next = placeOf (r .next) }
 
 abbrev pub pageAnswer : PageAnswer → Outcome Page
 pageAnswer (Paged r) = accepted (pageResult r)

@@ -7,7 +7,7 @@
 // syndromes are given by their high and low 32 bits.
 use libc::STDIN_FILENO;
 use pages::PageAnswer;
-use pages::PageResult;
+use paging::PageResult;
 use patterns::Mark;
 use patterns::Pattern;
 

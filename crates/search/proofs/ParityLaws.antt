@@ -15,8 +15,9 @@ use Rattle.patterns.specs.Order.{lower}
 use Rattle.patterns.specs.Listing.{choose, sift}
 use Rattle.patterns.proofs.SiftLaws.{sift-none}
 use Rattle.patterns.proofs.ListingLaws.{choose-in}
-use Rattle.search.specs.Search.{xorAll, summing, headless, headOf, firstFrom, firstAfter, Lookup, OddOnes, ruledOut}
-use Rattle.search.proofs.HeadLaws.{head-nil, firstFrom-whole}
+use Rattle.placing.specs.Placing.{xorAll, summing, headless, headOf, firstFrom, firstAfter, Lookup}
+use Rattle.search.specs.Search.{OddOnes, ruledOut}
+use Rattle.placing.proofs.HeadLaws.{head-nil, firstFrom-whole}
 
 sum-parity : (power : ℕ → ℕ) {l from : ℕ} {ps : List ℕ} → ((p : ℕ) → p < l → ones (power p) % 2 ≡ 1)
     → Ascending l from ps → length ps % 2 ≡ ones (xorAll power ps) % 2

@@ -18,8 +18,9 @@ use Rattle.patterns.proofs.WalkLaws.{walk-order, fewer-first, level-lower, sift
 use Rattle.patterns.proofs.SiftLaws.{sift-append, sift-all, sift-none, sift-same, sift-in}
 use Rattle.patterns.proofs.SortedLaws.{not-back, sorted-behind, sorted-next}
 use Rattle.patterns.proofs.ListingLaws.{choose-in, upTo-in, sifted-in}
-use Rattle.search.specs.Search.{xorAll, summing, walked, Head, headless, starts, headOf, rising, firstFrom, firstAfter, answer, FoundFirst}
-use Rattle.search.proofs.HeadLaws.{orElse, head-append, head-nil, summing-append, summing-sift, summing-nil, firstFrom-whole}
+use Rattle.placing.specs.Placing.{xorAll, summing, Head, headless, starts, headOf, firstFrom, firstAfter, answer}
+use Rattle.search.specs.Search.{walked, rising, FoundFirst}
+use Rattle.placing.proofs.HeadLaws.{orElse, head-append, head-nil, summing-append, summing-sift, summing-nil, firstFrom-whole}
 
 pub rising-none : (l k : ℕ) → rising l k zero ≡ []
 unfolding rising

@@ -8,10 +8,11 @@ use lib.ListN.{length, take, drop}
 use lib.Seq.{length-take-le, take-at}
 use Rattle.patterns.specs.Walk.{byPositions}
 use Rattle.patterns.specs.Listing.{sift}
-use Rattle.search.specs.Search.{summing, walked, starts, headOf, firstAfter, rising, answer, found, CountWithin, Told}
+use Rattle.placing.specs.Placing.{summing, starts, headOf, firstAfter, answer}
+use Rattle.search.specs.Search.{walked, rising, found, CountWithin, Told}
 use Rattle.search.specs.declared.Found.{Found}
 use Rattle.search.specs.declared.Found.the-variants.{At, Nothing}
-use Rattle.search.proofs.HeadLaws.{orElse}
+use Rattle.placing.proofs.HeadLaws.{orElse}
 use Rattle.search.proofs.RisingLaws.{head-none, first-starts, next-starts, walked-rising, after-rising}
 
 module _ (power : ℕ → ℕ) (l n s : ℕ) where

@@ -10,7 +10,8 @@ use Rattle.patterns.specs.Patterns.{placeOf}
 use Rattle.patterns.specs.Pages.{Page}
 use Rattle.pages.specs.Conditions.{Request}
 use Rattle.pages.specs.Sequences.{Lending, requestWith}
-use Rattle.pages.specs.Calls.{pageCall, pageResult}
+use Rattle.paging.specs.Results.{pageResult}
+use Rattle.pages.specs.Calls.{pageCall}
 use Rattle.lines.proofs.WritingLaws.{stored-text}
 use Rattle.lister.proofs.TurnLaws.{paged, page-turned-down, turn-accepted, turn-fits, turn-within, turn-going, turn-fewer, turn-text}
 use Rattle.lister.proofs.page_turn.Statement.{statement}

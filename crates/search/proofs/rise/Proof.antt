@@ -5,7 +5,8 @@ use borrow.Author.Needs.{needs}
 use native.Mathlib.Omega.{arith}
 use lib.ListN.{length}
 use lib.Seq.{length-take-le, length-front}
-use Rattle.search.specs.Search.{headOf, summing, rising, Lookup}
+use Rattle.placing.specs.Placing.{headOf, summing, Lookup}
+use Rattle.search.specs.Search.{rising}
 use Rattle.search.proofs.RisingLaws.{rise-hit, rise-miss, rise-none}
 use Rattle.search.proofs.rise.Statement.{statement}
 use Rattle.search.proofs.rise.Tie as tie

@@ -11,9 +11,9 @@ use Rattle.patterns.specs.Order.{before}
 use Rattle.cursor.specs.Cursors.{aheadOf}
 use Rattle.cursor.proofs.AheadLaws.{told-from}
 use Rattle.listing.specs.Listings.{listedBy}
-use Rattle.pages.proofs.FillLaws.{Filling, filling-none, filling-more, filled-page, filled-bytes, stopped-page, stopped-bytes, found-within, fits-room}
-use Rattle.pages.proofs.fill.Statement.{statement}
-use Rattle.pages.proofs.fill.Tie as tie
+use Rattle.paging.proofs.FillLaws.{Filling, filling-none, filling-more, filled-page, filled-bytes, stopped-page, stopped-bytes, found-within, fits-room}
+use Rattle.paging.proofs.fill.Statement.{statement}
+use Rattle.paging.proofs.fill.Tie as tie
 
 abbrev Inv-loop : tie.InvT-loop
 Inv-loop cursor pow first pos₀ output₀ ahead₀ last₀ used₀ written₀ pos output ahead last used written =

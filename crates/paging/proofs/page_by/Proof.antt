@@ -12,8 +12,8 @@ use Rattle.patterns.specs.Order.{before}
 use Rattle.cursor.specs.Cursors.{aheadOf}
 use Rattle.cursor.proofs.AheadLaws.{told-ahead, told-fits}
 use Rattle.listing.specs.Listings.{listedBy}
-use Rattle.pages.proofs.page_by.Statement.{statement}
-use Rattle.pages.proofs.page_by.Tie as tie
+use Rattle.paging.proofs.page_by.Statement.{statement}
+use Rattle.paging.proofs.page_by.Tie as tie
 
 fill-requires : tie.Need-fill-requires
 fill-requires c κs =

@@ -5,9 +5,9 @@ use borrow.Author.Needs.{needs}
 use native.Mathlib.Omega.{arith}
 use native.Mathlib.Nat.{mul-comm}
 use lib.ListN.{length, getD}
-use Rattle.search.proofs.NearestLaws.{reach-bounds, near-first, near-none, near-period}
-use Rattle.search.proofs.nearest.Statement.{statement}
-use Rattle.search.proofs.nearest.Tie as tie
+use Rattle.placing.proofs.NearestLaws.{reach-bounds, near-first, near-none, near-period}
+use Rattle.placing.proofs.nearest.Statement.{statement}
+use Rattle.placing.proofs.nearest.Tie as tie
 
 -- the sum looked for has an entry
 inside : (s : tie.Start) → s .args .u < length (s .args .first .now)

@@ -5,18 +5,18 @@ use Prim.Native.Nat.{ℕ, suc, _-_, _≤_, _<_}
 use borrow.Author.Needs.{needs}
 use native.Mathlib.Omega.{arith}
 use lib.ListN.{length, length-set}
-use Rattle.search.specs.Search.{firstFrom, Lookup}
-use Rattle.search.proofs.HeadLaws.{firstFrom-past}
-use Rattle.search.proofs.NearestLaws.{ready-next}
-use Rattle.search.proofs.TailLaws.{tail-length, tail-back-length, place-hit, place-miss}
+use Rattle.placing.specs.Placing.{firstFrom, Lookup}
+use Rattle.placing.proofs.HeadLaws.{firstFrom-past}
+use Rattle.placing.proofs.NearestLaws.{ready-next}
+use Rattle.placing.proofs.TailLaws.{tail-length, tail-back-length, place-hit, place-miss}
 use borrow.Fn.Kinds.{In}
 use borrow.Fn.PlainCycle.{Measures, is, falls, and}
-use Rattle.search.proofs.place.Reads as place
-use Rattle.search.proofs.place.Kinds as place-kinds
-use Rattle.search.proofs.+place.Lts-place as place-lts
-use Rattle.search.proofs.few.Reads as few-reads
-use Rattle.search.proofs.+place.{statement}
-use Rattle.search.proofs.+place.Tie.{close}
+use Rattle.placing.proofs.place.Reads as place
+use Rattle.placing.proofs.place.Kinds as place-kinds
+use Rattle.placing.proofs.+place.Lts-place as place-lts
+use Rattle.placing.proofs.few.Reads as few-reads
+use Rattle.placing.proofs.+place.{statement}
+use Rattle.placing.proofs.+place.Tie.{close}
 
 abbrev μ-place : Measures 3 place-kinds.ps ℕ
 μ-place κs a = length (a .1 .1 .1 .1 .1 .0 .now)

@@ -5,18 +5,18 @@ use Prim.Native.Nat.{ℕ, _+_, _<_}
 use borrow.Author.Needs.{needs}
 use native.Mathlib.Omega.{arith}
 use lib.ListN.{length, getD}
-use Rattle.search.proofs.HeadLaws.{firstAfter-empty}
-use Rattle.search.proofs.NearestLaws.{ready-next, ready-at}
-use Rattle.search.proofs.TailLaws.{tail-length, tail-back-length, head-below, tail-ascends, resume-hit, resume-miss}
+use Rattle.placing.proofs.HeadLaws.{firstAfter-empty}
+use Rattle.placing.proofs.NearestLaws.{ready-next, ready-at}
+use Rattle.placing.proofs.TailLaws.{tail-length, tail-back-length, head-below, tail-ascends, resume-hit, resume-miss}
 use borrow.Fn.Kinds.{In}
 use borrow.Fn.PlainCycle.{Measures, is, falls, and}
-use Rattle.search.proofs.resume.Reads as resume
-use Rattle.search.proofs.resume.Kinds as resume-kinds
-use Rattle.search.proofs.+resume.Lts-resume as resume-lts
-use Rattle.search.proofs.resume_pair.Reads as resume-pair-reads
-use Rattle.search.proofs.place.Reads as place-reads
-use Rattle.search.proofs.+resume.{statement}
-use Rattle.search.proofs.+resume.Tie.{close}
+use Rattle.placing.proofs.resume.Reads as resume
+use Rattle.placing.proofs.resume.Kinds as resume-kinds
+use Rattle.placing.proofs.+resume.Lts-resume as resume-lts
+use Rattle.placing.proofs.resume_pair.Reads as resume-pair-reads
+use Rattle.placing.proofs.place.Reads as place-reads
+use Rattle.placing.proofs.+resume.{statement}
+use Rattle.placing.proofs.+resume.Tie.{close}
 
 abbrev μ-resume : Measures 3 resume-kinds.ps ℕ
 μ-resume κs a = length (a .1 .1 .1 .1 .0 .now)

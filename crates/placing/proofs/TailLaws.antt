@@ -11,9 +11,9 @@ use lib.Seq.{drop-length, take-length}
 use borrow.Rule.Slice.PartMut.{midOf, putMid, mid-len}
 use Rattle.base.specs.Lists.{Ascending, ends, next}
 use Rattle.base.proofs.ListLaws.{ascending-from}
-use Rattle.search.specs.Search.{Head, starts, firstFrom, firstAfter, answer, Lookup, Nearest}
-use Rattle.search.proofs.HeadLaws.{orElse, onto, firstAfter-cons, firstAfter-empty}
-use Rattle.search.proofs.NearestLaws.{place-turn, nearest-first}
+use Rattle.placing.specs.Placing.{Head, starts, firstFrom, firstAfter, answer, Lookup, Nearest}
+use Rattle.placing.proofs.HeadLaws.{orElse, onto, firstAfter-cons, firstAfter-empty}
+use Rattle.placing.proofs.NearestLaws.{place-turn, nearest-first}
 
 pub tail-length : (xs : List ℕ) → length (midOf 1 (length xs - 1) xs) ≡ length xs - 1
 tail-length xs = mid-len 1 (length xs) xs (omega arith)

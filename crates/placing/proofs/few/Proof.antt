@@ -5,10 +5,10 @@ use borrow.Author.Needs.{needs}
 use borrow.Author.Tests.{eq-eqb, ne-eqb}
 use native.Mathlib.Omega.{arith}
 use lib.ListN.{length}
-use Rattle.search.specs.Search.{firstFrom}
-use Rattle.search.proofs.HeadLaws.{firstFrom-empty}
-use Rattle.search.proofs.few.Statement.{statement}
-use Rattle.search.proofs.few.Tie as tie
+use Rattle.placing.specs.Placing.{firstFrom}
+use Rattle.placing.proofs.HeadLaws.{firstFrom-empty}
+use Rattle.placing.proofs.few.Statement.{statement}
+use Rattle.placing.proofs.few.Tie as tie
 
 returns : tie.Need-returns
 returns c power t =

@@ -16,8 +16,8 @@ use Rattle.patterns.specs.Order.{lower}
 use Rattle.base.specs.Lists.{Ascending, next}
 use Rattle.patterns.specs.Listing.{choose, sift}
 use Rattle.patterns.proofs.SiftLaws.{sift-append, sift-map, sift-none, sift-same, sift-comm}
-use Rattle.search.specs.Search.{xorAll, summing, Head, headless, starts, headOf, firstFrom, firstAfter, answer}
-use Rattle.search.proofs.ChooseLaws.{choose-zero, choose-past, choose-step, choose-after}
+use Rattle.placing.specs.Placing.{xorAll, summing, Head, headless, starts, headOf, firstFrom, firstAfter, answer}
+use Rattle.placing.proofs.ChooseLaws.{choose-zero, choose-past, choose-step, choose-after}
 
 -- the first of two, and one with a position in front
 abbrev pub orElse : Head → Head → Head

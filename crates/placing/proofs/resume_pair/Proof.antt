@@ -4,11 +4,11 @@ use borrow.Author.Needs.{needs}
 use borrow.Author.Tests.{lt-ltb, le-ltb}
 use native.Mathlib.Omega.{arith}
 use lib.ListN.{length, getD}
-use Rattle.search.specs.Search.{starts}
-use Rattle.search.proofs.NearestLaws.{ready-next, ready-at}
-use Rattle.search.proofs.TailLaws.{head-below, second-below, pair-after, set-second}
-use Rattle.search.proofs.resume_pair.Statement.{statement}
-use Rattle.search.proofs.resume_pair.Tie as tie
+use Rattle.placing.specs.Placing.{starts}
+use Rattle.placing.proofs.NearestLaws.{ready-next, ready-at}
+use Rattle.placing.proofs.TailLaws.{head-below, second-below, pair-after, set-second}
+use Rattle.placing.proofs.resume_pair.Statement.{statement}
+use Rattle.placing.proofs.resume_pair.Tie as tie
 
 cast-p : tie.Need-cast-p
 cast-p c = omega (arith, head-below (c .before .before .before .before .pre .2) (omega arith))

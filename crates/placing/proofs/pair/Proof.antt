@@ -6,11 +6,11 @@ use borrow.Author.Needs.{needs}
 use borrow.Author.Tests.{lt-ltb, le-ltb}
 use native.Mathlib.Omega.{arith}
 use lib.ListN.{length, length-set}
-use Rattle.search.specs.Search.{starts, firstFrom, Lookup}
-use Rattle.search.proofs.HeadLaws.{firstFrom-past}
-use Rattle.search.proofs.NearestLaws.{pair-turn, ready-next, set-two}
-use Rattle.search.proofs.pair.Statement.{statement}
-use Rattle.search.proofs.pair.Tie as tie
+use Rattle.placing.specs.Placing.{starts, firstFrom, Lookup}
+use Rattle.placing.proofs.HeadLaws.{firstFrom-past}
+use Rattle.placing.proofs.NearestLaws.{pair-turn, ready-next, set-two}
+use Rattle.placing.proofs.pair.Statement.{statement}
+use Rattle.placing.proofs.pair.Tie as tie
 
 abbrev Inv-loop : tie.InvT-loop
 Inv-loop pow first period lo u pos₀ l a₀ pos a =

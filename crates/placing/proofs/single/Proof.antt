@@ -5,10 +5,10 @@ use borrow.Author.Needs.{needs}
 use borrow.Author.Tests.{lt-ltb, le-ltb}
 use native.Mathlib.Omega.{arith}
 use lib.ListN.{length}
-use Rattle.search.specs.Search.{starts}
-use Rattle.search.proofs.NearestLaws.{nearest-first, set-one}
-use Rattle.search.proofs.single.Statement.{statement}
-use Rattle.search.proofs.single.Tie as tie
+use Rattle.placing.specs.Placing.{starts}
+use Rattle.placing.proofs.NearestLaws.{nearest-first, set-one}
+use Rattle.placing.proofs.single.Statement.{statement}
+use Rattle.placing.proofs.single.Tie as tie
 
 returns : tie.Need-returns
 returns c power t =

@@ -13,8 +13,8 @@ use Rattle.patterns.specs.Pages.{pageOf, pageBytes}
 use Rattle.cursor.specs.Cursors.{Serves}
 use Rattle.cursor.proofs.LookupLaws.{as-long, prepared}
 use Rattle.listing.specs.Listings.{Marked}
-use Rattle.pages.proofs.page_in.Statement.{statement}
-use Rattle.pages.proofs.page_in.Tie as tie
+use Rattle.paging.proofs.page_in.Statement.{statement}
+use Rattle.paging.proofs.page_in.Tie as tie
 
 abbrev entry : tie.After-prepare → tie.Start
 entry c = c .before .before .before .before .before .before

@@ -12,8 +12,8 @@ use lib.ListN.{length, getD, set}
 use borrow.Author.Tests.{lt-ltb, le-ltb, eq-eqb, ne-eqb, eqb-true, eqb-false}
 use Rattle.base.proofs.Cases.{by-test, by-order}
 use Rattle.base.proofs.XorLaws.{xor-zero-equal}
-use Rattle.search.specs.Search.{Head, firstFrom, answer, Nearest, Firsts, Lookup, Ready}
-use Rattle.search.proofs.HeadLaws.{orElse, onto, firstFrom-zero, firstFrom-past, firstFrom-step}
+use Rattle.placing.specs.Placing.{Head, firstFrom, answer, Nearest, Firsts, Lookup, Ready}
+use Rattle.placing.proofs.HeadLaws.{orElse, onto, firstFrom-zero, firstFrom-past, firstFrom-step}
 
 -- the least multiple of c that is at least d
 pub reach-bounds : (d c : ℕ) → 1 ≤ c → (d ≤ (d + c - 1) / c * c) × ((d + c - 1) / c * c < d + c)

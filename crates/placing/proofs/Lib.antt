@@ -1,0 +1,4 @@
+pub mod ChooseLaws
+pub mod HeadLaws
+pub mod NearestLaws
+pub mod TailLaws
