@@ -8,16 +8,26 @@
 //! Then packets that were stamped and sealed, with some bits flipped: how many are repaired to what was sent, and how many
 //! to something else. Then the same of packets that were sealed with a field of zero, as sent where no checksum was made.
 //!
-//! Last, noise and flipped bits of packets that carry no checksum.
+//! Then noise and flipped bits of packets that carry no checksum.
+//!
+//! Last, drop-outs: stamped and sealed packets whose last bytes are all 00h or all FFh, as a receiver may leave them that lost the
+//! signal. Every repair of one is false too. Those are counted apart after which the field is zero, so that no sum was asked for.
 
-use rangqoda::{catalogue::CRC_16_XMODEM as CRC, seal, stamp, Refusal, Tables, Verdict, CCITT, NO_CHECKSUM};
+use rangqoda::catalogue::{CRC_16_IBM_3740, CRC_16_XMODEM as CRC};
+use rangqoda::{seal, stamp, Crc, Refusal, Tables, Verdict, CCITT, NO_CHECKSUM};
 use std::ops::Range;
 
 /// Where the checksum stands.
 const FIELD: usize = 0;
 
+/// Where it stands in packets of 64 bytes whose last bytes are lost, and it with them.
+const LAST_FIELD: usize = 60;
+
 const NOISE: &str = "bytes  N expected to pass   trials repaired  several   intact";
 const FLIPS: &str = "bytes  N  flips   trials  rightly  falsely  several     none";
+const DROP_OUTS: &str =
+    "CRC              field  lost as  N   trials  falsely  to a field of zero  several     none   intact";
+const ALL_LOST: &str = "CRC              field  lost as  N  verdict";
 
 /// How many sets of at most `limit` positions there are among `bits`.
 fn sets_of_at_most(limit: usize, bits: usize) -> f64 {
@@ -119,6 +129,45 @@ fn flips(tables: &Tables, how: Sent, bytes: usize, limit: usize, flips: usize, t
     Ok(())
 }
 
+/// How packets with drop-outs are sealed, where their field stands, and what the lost bytes became.
+struct DropOut(&'static str, Crc, usize, u8);
+
+/// Packets of 64 bytes of which the last 9 to 60 were lost.
+fn drop_outs(tables: &Tables, how: &DropOut, limit: usize, trials: usize) -> Result<(), Refusal> {
+    let &DropOut(name, crc, field, filling) = how;
+    let mut state = 1;
+    let mut copy = [0; 64];
+    let range = all_but_the_crc(64);
+    let (mut falsely, mut to_zero, mut several, mut none, mut intact) = (0, 0, 0, 0, 0);
+    for _ in 0..trials {
+        let mut packet = random_bytes(64, &mut state);
+        stamp(crc.generator, range.clone(), field, &mut packet)?;
+        seal(crc, &mut packet)?;
+        let lost = 9 + random(&mut state) as usize % 52;
+        packet[64 - lost..].fill(filling);
+        match tables.repair(crc, range.clone(), field, limit, &packet, &mut copy)? {
+            Verdict::Repaired(_) => {
+                falsely += 1;
+                to_zero += usize::from(copy[field..field + 2] == [0, 0]);
+            }
+            Verdict::Several { .. } => several += 1,
+            Verdict::None => none += 1,
+            Verdict::Intact => intact += 1,
+        }
+    }
+    print!("{name:<15} {field:>6}      {filling:02X}h {limit:>2} {trials:>8}");
+    println!(" {falsely:>8} {to_zero:>19} {several:>8} {none:>8} {intact:>8}");
+    Ok(())
+}
+
+/// What is said of a packet of 64 bytes of which nothing is left.
+fn all_lost(tables: &Tables, how: &DropOut, limit: usize) -> Result<(), Refusal> {
+    let &DropOut(name, crc, field, filling) = how;
+    let verdict = tables.repair(crc, all_but_the_crc(64), field, limit, &[filling; 64], &mut [0; 64])?;
+    println!("{name:<15} {field:>6}      {filling:02X}h {limit:>2}  {verdict:?}");
+    Ok(())
+}
+
 fn run() -> Result<(), Refusal> {
     let tables = Tables::new(CCITT)?;
     println!("Noise\n{NOISE}");
@@ -203,6 +252,23 @@ fn run() -> Result<(), Refusal> {
         (512, 2, 2, 10_000),
     ] {
         flips(&tables, Sent::Bare, bytes, limit, flipped, trials)?;
+    }
+    let lost = [
+        DropOut("CRC-16/XMODEM", CRC, LAST_FIELD, 0x00),
+        DropOut("CRC-16/XMODEM", CRC, LAST_FIELD, 0xFF),
+        DropOut("CRC-16/XMODEM", CRC, FIELD, 0x00),
+        DropOut("CRC-16/IBM-3740", CRC_16_IBM_3740, LAST_FIELD, 0x00),
+        DropOut("CRC-16/IBM-3740", CRC_16_IBM_3740, LAST_FIELD, 0xFF),
+    ];
+    println!("\nDrop-outs: the last 9 to 60 of 64 bytes\n{DROP_OUTS}");
+    for how in &lost {
+        drop_outs(&tables, how, 1, 40_000)?;
+        drop_outs(&tables, how, 2, 40_000)?;
+    }
+    println!("\nDrop-outs: all of 64 bytes\n{ALL_LOST}");
+    for how in &lost {
+        all_lost(&tables, how, 1)?;
+        all_lost(&tables, how, 2)?;
     }
     Ok(())
 }
