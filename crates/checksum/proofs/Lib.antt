@@ -3,4 +3,3 @@ pub mod RangeLaws
 pub mod WeightLaws
 pub mod ConditionLaws
 pub mod StampLaws
-pub mod SealedRangeLaws

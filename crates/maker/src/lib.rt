@@ -62,7 +62,7 @@ pub fn fill(packet: &mut [u8], seed: u32) -> u32
 fn judge_make(generator: u64, init: u64, xorout: u64, check: Check, len: usize) -> Judgement
     ensures { λ r. ⌜ judgement r ≡ judged (makeConditions (crcOf generator init xorout) (8 * len) check) ⌝ }
 {
-    let judged = packet::judge_packet(generator, init, xorout, len);
+    let judged = crc::judge_packet(generator, init, xorout, len);
     if let Judgement::Refused(r) = judged {
         return Judgement::Refused(r);
     }
@@ -95,7 +95,7 @@ pub fn make(
             let state = fill(packet, seed);
             // neither of these is refused: their conditions were judged above
             checksum::stamp(generator, check, packet);
-            packet::seal(generator, init, xorout, packet);
+            crc::seal(generator, init, xorout, packet);
             MakeAnswer::Made(state)
         }
     }

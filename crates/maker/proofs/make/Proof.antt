@@ -7,7 +7,7 @@ use lib.ListN.{length}
 use Rattle.base.specs.Outcome.{refused, accepted, Condition}
 use Rattle.base.proofs.JudgeLaws.{turned-down, let-through, none-applies}
 use Rattle.packet.specs.Packet.{crcOf}
-use Rattle.packet.specs.Calls.{sealPacket}
+use Rattle.crc.specs.Calls.{sealPacket}
 use Rattle.checksum.specs.Calls.{stampPacket}
 use Rattle.maker.specs.Stream.{stateAfter}
 use Rattle.maker.specs.Calls.{made, makeConditions}
