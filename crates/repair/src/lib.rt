@@ -238,7 +238,7 @@ fn settle(
     ensures { λ r. ⌜ said r ≡ verdict crc check limit (now (packet .entry)) ⌝ }
 {
     let g = crc.generator;
-    let syndrome = packet::remainder_of(crc, packet);
+    let syndrome = remainders::remainder_of(crc, packet);
     let w = checksum::weigh(check, packet);
     if both_pass(syndrome, w, packet) {
         return Verdict::Intact;
