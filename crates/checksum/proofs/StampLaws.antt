@@ -11,7 +11,7 @@ use lib.ListN.{length, getD, take, drop, set, length-set}
 use lib.Seq.{set-set, set-comm, getD-set-same, getD-set-other}
 use Rattle.packet.specs.Packet.{Bytes}
 use Rattle.checksum.specs.Checksum.{sumOf, total, reduced, range, fieldOf, passes, unfitField, withField, asWritten, stamped}
-use Rattle.checksum.specs.Totals.{multiple, share}
+use Rattle.checksum.specs.Shares.{multiple, share}
 use Rattle.checksum.specs.declared.Check.{Check}
 use Rattle.checksum.proofs.SumLaws.{sum-reduced, reduced-zero, reduced-positive, multiple-positive}
 use Rattle.checksum.proofs.RangeLaws.{set-bytes, range-bytes, passes-total, total-range-set, share-within, wordWeight-even, wordWeight-odd}

@@ -5,10 +5,10 @@ use Prim.Native.Nat.{_+_, _≤_}
 use native.Mathlib.Omega.{arith}
 use borrow.Author.Needs.{needs}
 use lib.ListN.{length}
 use Rattle.checksum.specs.Checksum.{range}
 use Rattle.checksum.proofs.RangeLaws.{field-total}
-use Rattle.checksum.proofs.weigh.Statement.{statement}
-use Rattle.checksum.proofs.weigh.Tie as tie
+use Rattle.weighing.proofs.weigh.Statement.{statement}
+use Rattle.weighing.proofs.weigh.Tie as tie
 
 number-in-field-requires : tie.Need-number-in-field-requires
 number-in-field-requires c κs h = let p = c .before .before .before .pre in omega (arith, p .3, p .4 h)

@@ -7,13 +7,13 @@ use native.Mathlib.Omega.{arith}
 use lib.ListN.{length, drop, drop-of-length-le}
 use Rattle.base.proofs.ListLaws.{ascending-at, ascending-length}
 use Rattle.packet.specs.Packet.{flips}
 use Rattle.checksum.specs.Checksum.{total, range}
-use Rattle.checksum.specs.Totals.{setWeight, clearWeight}
 use Rattle.checksum.proofs.SumLaws.{total-bound}
 use Rattle.checksum.proofs.RangeLaws.{range-bytes, range-length}
-use Rattle.checksum.proofs.WeightLaws.{total-flips, setWeight-nil, clearWeight-nil, clear-turn, set-turn}
-use Rattle.checksum.proofs.flipped_total.Statement.{statement}
-use Rattle.checksum.proofs.flipped_total.Tie as tie
+use Rattle.weighing.specs.Totals.{setWeight, clearWeight}
+use Rattle.weighing.proofs.WeightLaws.{total-flips, setWeight-nil, clearWeight-nil, clear-turn, set-turn}
+use Rattle.weighing.proofs.flipped_total.Statement.{statement}
+use Rattle.weighing.proofs.flipped_total.Tie as tie
 
 record Weighing (from to : ℕ) (packet pos : List ℕ) (plus minus i : ℕ) : Type 0 where
   within : i ≤ length pos

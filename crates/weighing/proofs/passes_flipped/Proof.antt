@@ -9,11 +9,11 @@ use borrow.Author.Needs.{needs}
 use Rattle.base.proofs.ListLaws.{ascending-all}
 use Rattle.packet.specs.Packet.{flips}
 use Rattle.packet.proofs.FlipLaws.{flips-length, flips-bytes}
 use Rattle.checksum.specs.Checksum.{fieldOf}
-use Rattle.checksum.specs.Totals.{multiple}
+use Rattle.checksum.specs.Shares.{multiple}
 use Rattle.checksum.proofs.RangeLaws.{no-check-passes, zero-field-passes, passes-total, field-total}
-use Rattle.checksum.proofs.passes_flipped.Statement.{statement}
-use Rattle.checksum.proofs.passes_flipped.Tie as tie
+use Rattle.weighing.proofs.passes_flipped.Statement.{statement}
+use Rattle.weighing.proofs.passes_flipped.Tie as tie
 
 abbrev entry : tie.Else1 → tie.Start
 entry c = c .before .before .before .before

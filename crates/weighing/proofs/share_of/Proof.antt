@@ -1,9 +1,9 @@
 -- `share_of` goes by the byte's place: outside the range, or at an even or odd distance from its start.
 use mathlib.Core.Path.{sym, _∙_}
 use native.Mathlib.Omega.{arith}
 use Rattle.checksum.proofs.RangeLaws.{share-below, share-above, share-within, wordWeight-even, wordWeight-odd}
-use Rattle.checksum.proofs.share_of.Statement.{statement}
-use Rattle.checksum.proofs.share_of.Tie as tie
+use Rattle.weighing.proofs.share_of.Statement.{statement}
+use Rattle.weighing.proofs.share_of.Tie as tie
 
 returns : tie.Need-returns
 returns c = (sym (share-below _ _ _ (c .if1 .taken)), omega arith)

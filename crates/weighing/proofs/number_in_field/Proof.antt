@@ -1,9 +1,9 @@
 -- `number_in_field` reads the word at the field, where there is one.
 use native.Mathlib.Omega.{arith}
 use borrow.Author.Needs.{needs}
 use Rattle.checksum.specs.Checksum.{fieldOf}
-use Rattle.checksum.proofs.number_in_field.Statement.{statement}
-use Rattle.checksum.proofs.number_in_field.Tie as tie
+use Rattle.weighing.proofs.number_in_field.Statement.{statement}
+use Rattle.weighing.proofs.number_in_field.Tie as tie
 
 returns : tie.Need-returns
 returns c h = absurd (h (omega (arith, c .if1 .taken)))

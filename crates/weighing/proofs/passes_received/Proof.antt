@@ -3,9 +3,9 @@ use mathlib.Core.Path.{ap, _∙_}
 use borrow.Author.Needs.{needs}
 use Rattle.base.specs.Lists.{ends}
 use Rattle.packet.proofs.FlipLaws.{flips-nil}
 use Rattle.checksum.specs.Checksum.{passes}
-use Rattle.checksum.proofs.passes_received.Statement.{statement}
-use Rattle.checksum.proofs.passes_received.Tie as tie
+use Rattle.weighing.proofs.passes_received.Statement.{statement}
+use Rattle.weighing.proofs.passes_received.Tie as tie
 
 passes-flipped-requires : tie.Need-passes-flipped-requires
 passes-flipped-requires c κs = (c .before .before .pre, ends)

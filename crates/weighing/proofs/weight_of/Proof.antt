@@ -5,9 +5,9 @@ use native.Mathlib.Omega.{arith}
 use native.Mathlib.Nat.{mul-le-mul}
 use borrow.Author.Needs.{needs}
 use lib.Pow.{shl-exact, pow-mono}
-use Rattle.checksum.specs.Totals.{weight}
-use Rattle.checksum.proofs.weight_of.Statement.{statement}
-use Rattle.checksum.proofs.weight_of.Tie as tie
+use Rattle.weighing.specs.Totals.{weight}
+use Rattle.weighing.proofs.weight_of.Statement.{statement}
+use Rattle.weighing.proofs.weight_of.Tie as tie
 
 returns : tie.Need-returns
 unfolding weight

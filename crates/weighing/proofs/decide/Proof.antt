@@ -1,9 +1,9 @@
 -- `decide` tells a positive multiple of FFFFh.
 use mathlib.Core.Path.{sym}
 use native.Mathlib.Omega.{arith}
 use Rattle.checksum.proofs.SumLaws.{multiple-zero, multiple-positive}
-use Rattle.checksum.proofs.decide.Statement.{statement}
-use Rattle.checksum.proofs.decide.Tie as tie
+use Rattle.weighing.proofs.decide.Statement.{statement}
+use Rattle.weighing.proofs.decide.Tie as tie
 
 returns : tie.Need-returns
 returns c = sym (multiple-zero _ (omega arith))

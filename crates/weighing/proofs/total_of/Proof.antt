@@ -3,12 +3,12 @@
 use Prim.Native.Nat.{_+_, _-_, _*_, _≤_}
 use mathlib.Core.Path.{_≡_}
 use lib.ListN.{length, drop}
 use Rattle.checksum.specs.Checksum.{total}
 use Rattle.checksum.proofs.SumLaws.{total-turn, total-past}
 use borrow.Author.Needs.{needs}
 use native.Mathlib.Omega.{arith}
-use Rattle.checksum.proofs.total_of.Statement.{statement}
-use Rattle.checksum.proofs.total_of.Tie as tie
+use Rattle.weighing.proofs.total_of.Statement.{statement}
+use Rattle.weighing.proofs.total_of.Tie as tie
 
 abbrev Inv-loop : tie.InvT-loop
 Inv-loop s t₀ i₀ t i = (t ≤ 65536 * i) × (t + total (drop i s) ≡ total s)

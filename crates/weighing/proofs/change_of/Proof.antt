@@ -3,10 +3,10 @@ use mathlib.Core.Path.{_≡_, sym, ap₂, _∙_}
 use Prim.Native.Nat.{ℕ, _-_, _*_, _≤_}
 use native.Mathlib.Omega.{arith}
 use borrow.Author.Needs.{needs}
-use Rattle.checksum.specs.Totals.{weight}
-use Rattle.checksum.proofs.WeightLaws.{digit-multiple}
-use Rattle.checksum.proofs.change_of.Statement.{statement}
-use Rattle.checksum.proofs.change_of.Tie as tie
+use Rattle.weighing.specs.Totals.{weight}
+use Rattle.weighing.proofs.WeightLaws.{digit-multiple}
+use Rattle.weighing.proofs.change_of.Statement.{statement}
+use Rattle.weighing.proofs.change_of.Tie as tie
 
 -- a bit counts at most 32768
 clear-small : (c : tie.After-bit-of) → (1 - c .bit-of .result) * c .before .before .weight-of .result ≤ 32768

@@ -1,28 +1,14 @@
--- What bytes and bits count in the plain total of a range, by which laws and inner functions decide the second check.
+-- What bits count in the plain total of a range, by which the second check of a packet with flipped bits is decided.
 use Prim.Native.Nat.{ℕ, _+_, _-_, _*_, _/_, _%_, _^_, _≤_}
 use mathlib.Core.Path.{_≡_}
-use mathlib.Core.Bool.{Bool, _&&_}
 use mathlib.Core.Logic.{_≢_}
 use mathlib.Core.List.{List, [], _∷_}
-use lib.Dec.{eqb, leb, ltb}
 use lib.ListN.{length}
-use Rattle.base.specs.Outcome.{pick}
 use Rattle.packet.specs.Packet.{Bytes, bitAt}
 use Rattle.checksum.specs.Checksum.{total, range}
-use Rattle.checksum.specs.declared.Change.{Change}
-use Rattle.checksum.specs.declared.Weighed.{Weighed}
-
--- whether a plain total is a positive multiple of FFFFh
-unfoldable pub multiple : ℕ → Bool
-multiple t = ltb 0 t && eqb (t % 65535) 0
-
--- what a byte counts in the total, by its place among the bytes: 256 as a word's high byte, 1 as its low byte
-unfoldable pub wordWeight : ℕ → ℕ
-wordWeight i = pick (eqb (i % 2) 0) 256 1
-
--- what byte i of the packet counts in the total of the range: nothing outside it
-unfoldable pub share : ℕ → ℕ → ℕ → ℕ
-share a e i = pick (leb a i && ltb i e) (wordWeight (i - a)) 0
+use Rattle.checksum.specs.Shares.{share}
+use Rattle.weighing.specs.declared.Change.{Change}
+use Rattle.weighing.specs.declared.Weighed.{Weighed}
 
 -- what the bit at a position counts in the total of the range
 unfoldable pub weight : ℕ → ℕ → List ℕ → ℕ → ℕ

@@ -14,9 +14,10 @@ use Rattle.base.proofs.ListLaws.{ascending-all, ascending-above}
 use Rattle.base.proofs.XorLaws.{mod-two-lt, xor-power}
 use Rattle.packet.specs.Packet.{bits, bitAt, flip, flips}
 use Rattle.packet.proofs.FlipLaws.{flip-length, flips-nil, flips-cons, bitAt-flip-other}
 use Rattle.checksum.specs.Checksum.{total, range}
-use Rattle.checksum.specs.Totals.{share, weight, setWeight, clearWeight}
+use Rattle.checksum.specs.Shares.{share}
 use Rattle.checksum.proofs.RangeLaws.{total-range-set}
+use Rattle.weighing.specs.Totals.{weight, setWeight, clearWeight}
 
 pub weight-flip : (a e : ℕ) (s : List ℕ) (p q : ℕ) → weight a e (flip s p) q ≡ weight a e s q
 unfolding weight
