@@ -2,7 +2,6 @@
 use base::Judgement;
 use base::Refusal;
 use checksum::Check;
-use checksum::Weighed;
 use cursor::Cursor;
 use packet::Crc;
 use packet::MOST_BITS;
@@ -11,6 +10,7 @@ use patterns::Mark;
 use patterns::Pattern;
 use poly::Generator;
 use search::Found;
+use weighing::Weighed;
 ghost use mathlib.Core.Path.{_≡_};
 ghost use mathlib.Core.Bool.{_&&_};
 ghost use mathlib.Core.List.{List, _++_};
@@ -21,7 +21,7 @@ ghost use Rattle.base.specs.Lists.{All};
 ghost use Rattle.base.specs.Judged.{judgement, judged};
 ghost use Rattle.packet.specs.Packet.{bits, crcOf, flips};
 ghost use Rattle.checksum.specs.Checksum.{passes};
-ghost use Rattle.checksum.specs.Totals.{Weighs};
+ghost use Rattle.weighing.specs.Totals.{Weighs};
 ghost use Rattle.patterns.specs.Patterns.{mostPositions, positions};
 ghost use Rattle.patterns.specs.Listing.{listing, sift};
 ghost use Rattle.cursor.specs.Cursors.{Listable, Prepared, FoundFits, listedBy, aheadOf};
@@ -102,7 +102,7 @@ fn tally_from(
                 return t;
             }
             Found::At(k) => {
-                let ok = checksum::passes_flipped(w, packet, &pos[..k]);
+                let ok = weighing::passes_flipped(w, packet, &pos[..k]);
                 t = tally_one(t, ok, &pos[..k]);
                 ahead = cursor::advance(cursor, pow, first, pos, k);
             }
@@ -222,7 +222,7 @@ fn both_pass(syndrome: u64, w: Weighed, packet: &[u8]) -> bool
     if syndrome != 0 {
         return false;
     }
-    checksum::passes_received(w, packet)
+    weighing::passes_received(w, packet)
 }
 
 // The verdict on a packet, by tables that are right.
@@ -239,7 +239,7 @@ fn settle(
 {
     let g = crc.generator;
     let syndrome = remainders::remainder_of(crc, packet);
-    let w = checksum::weigh(check, packet);
+    let w = weighing::weigh(check, packet);
     if both_pass(syndrome, w, packet) {
         return Verdict::Intact;
     }

@@ -7,7 +7,7 @@ use Rattle.packet.specs.Packet.{bits, flips}
 use Rattle.checksum.specs.Checksum.{passes}
 use Rattle.patterns.specs.Listing.{listing, sift}
 use Rattle.cursor.specs.Cursors.{Listable}
-use Rattle.checksum.specs.Totals.{Weighs}
+use Rattle.weighing.specs.Totals.{Weighs}
 use Rattle.patterns.specs.Patterns.{mostPositions}
 use Rattle.repair.specs.Tallies.{Tallied}
 use Rattle.repair.proofs.tally_in.Statement.{statement}
