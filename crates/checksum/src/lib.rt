@@ -131,7 +131,7 @@ fn as_written(value: u16) -> u16
 }
 
 // Writes what the sum of the range, the field taken as zero, lacks to FFFFh, or FFFFh where it lacks nothing, into the field.
-fn fill_field(packet: &mut [u8], check: Check)
+pub fn fill_field(packet: &mut [u8], check: Check)
     requires { ⌜ (check .from ≤ check .field) × (check .field + 2 ≤ check .to) × (check .to ≤ length (now packet)) ⌝ }
     ensures { λ _. ⌜ now (packet .exit) ≡ stamped check (now (packet .entry)) ⌝ }
 {

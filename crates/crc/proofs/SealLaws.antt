@@ -4,7 +4,7 @@ use mathlib.Core.List.{List, [], _∷_}
 use Prim.Native.Nat.{ℕ, zero, suc, _+_, _-_, _/_, _%_, _^_, _<_, _≤_}
 use native.Mathlib.Omega.{arith}
 use native.Mathlib.Nat.{mod-eq-of-lt, div-eq-of-lt}
-use lib.Bits.{bitXor, xor-lt, xor-self, xor-zero-r, xor-shr}
+use lib.Bits.{bitXor, xor-lt, xor-self, xor-zero-r, xor-comm, xor-shr}
 use lib.ListN.{length, getD, List·getD-append}
 use lib.Pow.{pow-mono, shr-shr}
 use lib.Seq.{getD-append-add}
@@ -36,25 +36,27 @@ bytes-are (suc k) v i =
     let e : i ≡ length (bytes k (v / 256)) + (i - k) = omega (arith, length-bytes k (v / 256)) in
     rw (e, getD-append-add (bytes k (v / 256)) (v % 256 ∷ []) (i - k) 0) (single (v % 256) (i - k) (omega arith))))
 
+pub sealed-is : (c : Crc) (s : List ℕ) → sealed c s ≡ bytes (length s) (bitXor (polynomial s) (remainder c s))
+unfolding sealed
+sealed-is c s = ap (bytes (length s)) (search (xor-comm, xor-zero-r))
+
 module _ (c : Crc) (d : Divisor (c .generator .degree) (c .generator .coefficients)) (s : List ℕ) (b : Bytes s) (long : c .generator .degree ≤ bits s) where
   n : ℕ
   n = c .generator .degree
 
   pub sealed-length : length (sealed c s) ≡ length s
-  unfolding sealed
-  sealed-length = length-bytes (length s) (bitXor (polynomial s) (remainder c s))
+  sealed-length = ap length (sealed-is c s) ∙ length-bytes (length s) (bitXor (polynomial s) (remainder c s))
 
   pub sealed-bytes : Bytes (sealed c s)
-  unfolding sealed
-  sealed-bytes = bytes-are (length s) (bitXor (polynomial s) (remainder c s))
+  sealed-bytes = rw (sealed-is c s) (bytes-are (length s) (bitXor (polynomial s) (remainder c s)))
 
   pub sealed-polynomial : polynomial (sealed c s) ≡ bitXor (polynomial s) (remainder c s)
-  unfolding sealed
   sealed-polynomial =
       let e : 256 ^ length s ≡ 2 ^ bits s = byte-power (length s) in
       let h : polynomial s < 2 ^ bits s = rw e at (polynomial-lt s b) in
       let k : remainder c s < 2 ^ bits s = omega (arith, remainder-lt c d s, pow-mono long) in
-      polynomial-bytes (length s) (bitXor (polynomial s) (remainder c s))
+      ap polynomial (sealed-is c s)
+      ∙ polynomial-bytes (length s) (bitXor (polynomial s) (remainder c s))
       ∙ mod-eq-of-lt (rw e (xor-lt (bits s) (polynomial s) (remainder c s) h k))
 
   -- what was added is the remainder
@@ -73,8 +75,7 @@ module _ (c : Crc) (d : Divisor (c .generator .degree) (c .generator .coefficien
 
   -- sealing a packet of remainder 0 changes nothing
   pub sealed-same : remainder c s ≡ 0 → sealed c s ≡ s
-  unfolding sealed
-  sealed-same e = ap (bytes (length s)) (ap (bitXor (polynomial s)) e ∙ xor-zero-r (polynomial s)) ∙ bytes-polynomial s b
+  sealed-same e = sealed-is c s ∙ ap (bytes (length s)) (ap (bitXor (polynomial s)) e ∙ xor-zero-r (polynomial s)) ∙ bytes-polynomial s b
 
   -- the terms from x^n on stay
   pub sealed-high : polynomial (sealed c s) / 2 ^ c .generator .degree ≡ polynomial s / 2 ^ c .generator .degree
@@ -99,7 +100,7 @@ module _ (c : Crc) (d : Divisor (c .generator .degree) (c .generator .coefficien
   -- and it is the only packet of its length that has remainder 0 and the bits of s from position n on
   pub sealed-only : (t : List ℕ) → Bytes t → length s ≡ length t → ((p : ℕ) → c .generator .degree ≤ p → p < bits s → bitAt s p ≡ bitAt t p)
       → remainder c t ≡ 0 → t ≡ sealed c s
-  unfolding sealed n
+  unfolding n
   sealed-only t bt l agree z =
       let difference : ℕ = bitXor (polynomial s) (polynomial t) in
       let small : difference < 2 ^ n = agreeing-sum s t n agree b bt l in
@@ -108,4 +109,4 @@ module _ (c : Crc) (d : Divisor (c .generator .degree) (c .generator .coefficien
       ∙ sym (remainder-sum c d s t (sym l))
       ∙ ap (bitXor (remainder c s)) z
       ∙ xor-zero-r (remainder c s) in
-      sym (bytes-polynomial t bt) ∙ ap₂ bytes (sym l) (sym (xor-cancel (polynomial s) (polynomial t)) ∙ ap (bitXor (polynomial s)) left)
+      sym (bytes-polynomial t bt) ∙ ap₂ bytes (sym l) (sym (xor-cancel (polynomial s) (polynomial t)) ∙ ap (bitXor (polynomial s)) left) ∙ sym (sealed-is c s)

@@ -1,6 +1,7 @@
 // The calls remainder and seal.
 use base::Judgement;
 use base::Refusal;
+use packet::Crc;
 use packet::crc_of;
 use poly::Generator;
 use remainders::remainder_of;
@@ -10,10 +11,12 @@ ghost use lib.ListN.{length};
 ghost use lib.Bits.{bitXor};
 ghost use Rattle.base.specs.Judged.{judgement, judged};
 ghost use Rattle.packet.specs.Packet.{Bytes, polynomial, bytes, crcOf};
+ghost use Rattle.packet.specs.Reading.{Readable};
 ghost use Rattle.crc.specs.Calls.{
   packetConditions,
   remainderAnswer,
   remainderCall,
+  sealed,
   sealAnswer,
   sealCall,
   sealPacket,
@@ -44,6 +47,15 @@ fn add_low(packet: &mut [u8], value: u64)
         packet[i] = packet[i] ^ (left % 256) as u8;
         left = left / 256;
     }
+}
+
+// Sets the packet's last bits so that its remainder is 0.
+pub fn fill_crc(packet: &mut [u8], crc: Crc)
+    requires { ⌜ Readable crc (now packet) ⌝ }
+    ensures { λ _. ⌜ now (packet .exit) ≡ sealed crc (now (packet .entry)) ⌝ }
+{
+    let r = remainder_of(crc, packet);
+    add_low(packet, r);
 }
 
 // The conditions of remainder and seal, in their order; others begin with these.
@@ -83,8 +95,7 @@ pub fn seal(generator: u64, init: u64, xorout: u64, packet: &mut [u8]) -> SealAn
     match judged {
         Judgement::Refused(r) => SealAnswer::Refused(r),
         Judgement::Passed => {
-            let r = remainder_of(crc_of(generator, init, xorout), packet);
-            add_low(packet, r);
+            fill_crc(packet, crc_of(generator, init, xorout));
             SealAnswer::Sealed
         }
     }
