@@ -1,1 +1,2 @@
 pub mod WeightLaws
+pub mod WeighedLaws

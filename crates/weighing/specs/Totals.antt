@@ -3,10 +3,13 @@ use Prim.Native.Nat.{ℕ, _+_, _-_, _*_, _/_, _%_, _^_, _≤_}
 use mathlib.Core.Path.{_≡_}
 use mathlib.Core.Logic.{_≢_}
 use mathlib.Core.List.{List, [], _∷_}
+use lib.Dec.{eqb}
 use lib.ListN.{length}
+use Rattle.base.specs.Outcome.{pick}
 use Rattle.packet.specs.Packet.{Bytes, bitAt}
-use Rattle.checksum.specs.Checksum.{total, range}
+use Rattle.checksum.specs.Checksum.{total, range, fieldOf}
 use Rattle.checksum.specs.Shares.{share}
+use Rattle.checksum.specs.declared.Check.{Check}
 use Rattle.weighing.specs.declared.Change.{Change}
 use Rattle.weighing.specs.declared.Weighed.{Weighed}
 
@@ -36,6 +39,14 @@ pub record Totalled (a e t : ℕ) (s : List ℕ) : Type 0 where
   pub short : length s ≤ 512
   pub inside : e ≤ length s
   pub known : t ≡ total (range a e s)
+
+-- the number in the field of a check; where there is no second check there is no field, and the number is 0
+unfoldable pub inField : Check → List ℕ → ℕ
+inField k s = pick (eqb (k .from) (k .to)) 0 (fieldOf (k .field) s)
+
+-- a check with what decides it, taken of one packet
+abbrev pub weighed : Check → List ℕ → Weighed
+weighed k s = record { check = k; total = total (range (k .from) (k .to) s); in_field = inField k s }
 
 -- w is a check of the packet s, with the total of its range and, where there is a second check, that of its field
 pub record Weighs (w : Weighed) (s : List ℕ) : Type 0 where

@@ -7,10 +7,10 @@ ghost use mathlib.Core.Logic.{_≢_};
 ghost use Prim.Native.Nat.{_+_, _≤_, _<_};
 ghost use lib.ListN.{length};
 ghost use Rattle.base.specs.Lists.{Ascending};
-ghost use Rattle.packet.specs.Packet.{Bytes, bits, flips};
-ghost use Rattle.checksum.specs.Checksum.{total, range, fieldOf, passes};
+ghost use Rattle.packet.specs.Packet.{bits, flips};
+ghost use Rattle.checksum.specs.Checksum.{total, range, passes};
 ghost use Rattle.checksum.specs.Shares.{multiple, share};
-ghost use Rattle.weighing.specs.Totals.{weight, Changes, Totalled, Weighs};
+ghost use Rattle.weighing.specs.Totals.{weight, Changes, Totalled, inField, weighed, Weighs};
 
 // A check, with the plain total of its range in one packet, and the number that is in its field there.
 pub struct Weighed {
@@ -42,7 +42,7 @@ fn total_of(s: &[u8]) -> u64
 // The number in the field. Where there is no second check, the place is not looked at.
 fn number_in_field(check: Check, packet: &[u8]) -> u64
     requires { ⌜ (check .from ≢ check .to → check .field < length (now packet)) ⌝ }
-    ensures { λ r. ⌜ (check .from ≢ check .to → r ≡ fieldOf (check .field) (now (packet .entry))) ⌝ }
+    ensures { λ r. ⌜ r ≡ inField check (now (packet .entry)) ⌝ }
 {
     let from = check.from;
     let to = check.to;
@@ -54,8 +54,8 @@ fn number_in_field(check: Check, packet: &[u8]) -> u64
 
 // What the check of one packet's candidates needs, taken once.
 pub fn weigh(check: Check, packet: &[u8]) -> Weighed
-    requires { ⌜ Bytes (now packet) × (length (now packet) ≤ 512) × (check .from ≤ check .to) × (check .to ≤ length (now packet)) × (check .from ≢ check .to → check .field + 2 ≤ check .to) ⌝ }
-    ensures { λ r. ⌜ (r .check ≡ check) × Weighs r (now (packet .entry)) ⌝ }
+    requires { ⌜ (length (now packet) ≤ 512) × (check .from ≤ check .to) × (check .to ≤ length (now packet)) × (check .from ≢ check .to → check .field + 2 ≤ check .to) ⌝ }
+    ensures { λ r. ⌜ r ≡ weighed check (now (packet .entry)) ⌝ }
 {
     let from = check.from;
     let to = check.to;
