@@ -212,11 +212,12 @@ module _ (g : ℕ) (k : Check) (s : List ℕ) (b : Bytes s) (h : stampCall g k s
   pub stamp-made-to-pass : passes k (stampPacket g k s) ≡ true
   stamp-made-to-pass = ap (passes k) stamp-leaves ∙ stamp-passes k s b inside (conditions-clear 10)
 
-  -- the field holds what the sum of the range, with zeros in the field, lacks to FFFFh, written as FFFFh where that is 0; and no other
-  -- byte changed
-  pub stamp-writes : (fieldOf (k .field) (stampPacket g k s) ≡ asWritten (65535 - sumCall (range (k .from) (k .to) (withField (k .field) 0 s))))
+  -- the packet is as long as before, its field holds what the sum of the range, with zeros in the field, lacks to FFFFh, written as FFFFh
+  -- where that is 0, and no other byte changed
+  pub stamp-writes : (length (stampPacket g k s) ≡ length s)
+      × (fieldOf (k .field) (stampPacket g k s) ≡ asWritten (65535 - sumCall (range (k .from) (k .to) (withField (k .field) 0 s))))
       × ((i : ℕ) → (i ≡ k .field → ⊥) → (i ≡ k .field + 1 → ⊥) → getD (stampPacket g k s) i 0 ≡ getD s i 0)
-  stamp-writes = rw stamp-leaves (stamped-field k s field-inside, stamped-other k s)
+  stamp-writes = rw stamp-leaves (stamped-length k s, stamped-field k s field-inside, stamped-other k s)
 
   -- so it never says that no checksum was made
   pub stamp-never-zero : fieldOf (k .field) (stampPacket g k s) ≢ 0
