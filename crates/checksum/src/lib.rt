@@ -108,7 +108,10 @@ pub fn unfit_field(check: Check) -> bool
     if to - field < 2 {
         return true;
     }
-    (field - from) % 2 == 1
+    if (field - from) % 2 == 1 {
+        return true;
+    }
+    false
 }
 
 // Writes a number into the two bytes of the field, high byte first.
