@@ -3,7 +3,7 @@ use mathlib.Core.Path.{_≡_, sym, _∙_}
 use mathlib.Core.Bool.{true, false, true≢false, or-true}
 use Prim.Native.Nat.{ℕ, _+_, _-_, _*_, _%_, _<_, _≤_}
 use native.Mathlib.Omega.{arith}
-use borrow.Author.Tests.{lt-ltb, le-ltb, ltb-true, ltb-false, eqb-false}
+use borrow.Author.Tests.{lt-ltb, le-ltb, eq-eqb, ne-eqb, ltb-true, ltb-false, eqb-false}
 use lib.Dec.{eqb, ltb}
 use Rattle.base.proofs.Cases.{by-test, by-order}
 use Rattle.checksum.specs.Checksum.{unfitRange, unfitField}
@@ -43,9 +43,15 @@ module _ (k : Check) where
   pub empty-field-unfit : k .from ≡ k .to → unfitField k ≡ true
   empty-field-unfit e = by-order (k .field) (k .from) (λ h. before-unfit h) (λ h. past-unfit (omega arith))
 
-  pub field-unfit : k .from ≤ k .field → k .field + 2 ≤ k .to → unfitField k ≡ eqb ((k .field - k .from) % 2) 1
+  field-unfit : k .from ≤ k .field → k .field + 2 ≤ k .to → unfitField k ≡ eqb ((k .field - k .from) % 2) 1
   unfolding unfitField
   field-unfit h l = simp (le-ltb _ _ h, le-ltb _ _ l)
+
+  pub odd-unfit : k .from ≤ k .field → k .field + 2 ≤ k .to → (k .field - k .from) % 2 ≡ 1 → unfitField k ≡ true
+  odd-unfit h l odd = field-unfit h l ∙ eq-eqb _ _ odd
+
+  pub even-fits : k .from ≤ k .field → k .field + 2 ≤ k .to → (k .field - k .from) % 2 ≡ 0 → unfitField k ≡ false
+  even-fits h l even = field-unfit h l ∙ ne-eqb ((k .field - k .from) % 2) 1 (λ odd. omega arith)
 
   -- a field that condition 10 lets pass
   pub record FitField : Type 0 where

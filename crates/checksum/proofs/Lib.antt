@@ -1,6 +1,4 @@
 pub mod SumLaws
 pub mod RangeLaws
-pub mod WeightLaws
 pub mod ConditionLaws
 pub mod StampLaws
-pub mod SealedRangeLaws

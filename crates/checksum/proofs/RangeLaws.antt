@@ -15,7 +15,7 @@ use Rattle.base.specs.Outcome.{pick}
 use Rattle.base.proofs.Cases.{by-test, by-order}
 use Rattle.packet.specs.Packet.{Bytes}
 use Rattle.checksum.specs.Checksum.{sumOf, total, range, fieldOf, passes}
-use Rattle.checksum.specs.Totals.{multiple, wordWeight, share}
+use Rattle.checksum.specs.Shares.{multiple, wordWeight, share}
 use Rattle.checksum.specs.declared.Check.{Check}
 use Rattle.checksum.proofs.SumLaws.{total-one, total-two, total-turn, total-past, sum-multiple}
 

@@ -11,7 +11,7 @@ use lib.ListN.{length, getD, take, drop, set, length-set}
 use lib.Seq.{set-set, set-comm, getD-set-same, getD-set-other}
 use Rattle.packet.specs.Packet.{Bytes}
 use Rattle.checksum.specs.Checksum.{sumOf, total, reduced, range, fieldOf, passes, unfitField, withField, asWritten, stamped}
-use Rattle.checksum.specs.Totals.{multiple, share}
+use Rattle.checksum.specs.Shares.{multiple, share}
 use Rattle.checksum.specs.declared.Check.{Check}
 use Rattle.checksum.proofs.SumLaws.{sum-reduced, reduced-zero, reduced-positive, multiple-positive}
 use Rattle.checksum.proofs.RangeLaws.{set-bytes, range-bytes, passes-total, total-range-set, share-within, wordWeight-even, wordWeight-odd}
@@ -40,12 +40,16 @@ pub withField-bytes : (f v : ℕ) (s : List ℕ) → Bytes s → v < 65536 → B
 unfolding withField
 withField-bytes f v s b h = set-bytes (set s f (v / 256)) (f + 1) (v % 256) (set-bytes s f (v / 256) b (omega arith)) (omega arith)
 
+pub stamped-is : (k : Check) (s : List ℕ) → stamped k s ≡ withField (k .field) (asWritten (65535 - sumOf (range (k .from) (k .to) (withField (k .field) 0 s)))) s
+unfolding stamped
+stamped-is k s = ap (λ (v : ℕ). withField (k .field) v s) (omega arith)
+
 -- the steps of a stamp: the field cleared, the range summed, the field written
 pub stamp-steps : (k : Check) (r u v : ℕ) (s z y : List ℕ)
     → z ≡ withField (k .field) 0 s → r ≡ sumOf (take (k .to - k .from) (drop (k .from) z)) → u ≡ 65535 - r → v ≡ asWritten u
     → y ≡ withField (k .field) v z → y ≡ stamped k s
-unfolding stamped range
-stamp-steps k r u v s z y p q l e w = w ∙ rw (e, l, q, p) (withField-again (k .field) 0 _ s)
+unfolding range
+stamp-steps k r u v s z y p q l e w = rw (stamped-is k s) (w ∙ rw (e, l, q, p) (withField-again (k .field) 0 _ s))
 
 high-cleared : (f : ℕ) (s : List ℕ) → f < length s → getD (withField f 0 s) f 0 ≡ 0
 unfolding withField
@@ -124,12 +128,10 @@ ffff-sums-as-zero k s b he fit h =
 -- ---- the packet stamped ----
 
 pub stamped-length : (k : Check) (s : List ℕ) → length (stamped k s) ≡ length s
-unfolding stamped
-stamped-length k s = withField-length (k .field) _ s
+stamped-length k s = ap length (stamped-is k s) ∙ withField-length (k .field) _ s
 
 pub stamped-bytes : (k : Check) (s : List ℕ) → Bytes s → Bytes (stamped k s)
-unfolding stamped
-stamped-bytes k s b = withField-bytes (k .field) _ s b (written-lt _ (omega arith))
+stamped-bytes k s b = rw (stamped-is k s) (withField-bytes (k .field) _ s b (written-lt _ (omega arith)))
 
 -- what the field then holds, which is not 0, and that no other byte changed
 withField-field : (f v : ℕ) (s : List ℕ) → f + 1 < length s → fieldOf f (withField f v s) ≡ v
@@ -142,23 +144,21 @@ withField-field f v s h =
 
 pub stamped-field : (k : Check) (s : List ℕ) → k .field + 1 < length s
     → fieldOf (k .field) (stamped k s) ≡ asWritten (65535 - sumOf (range (k .from) (k .to) (withField (k .field) 0 s)))
-unfolding stamped
-stamped-field k s h = withField-field (k .field) _ s h
+stamped-field k s h = ap (fieldOf (k .field)) (stamped-is k s) ∙ withField-field (k .field) _ s h
 
 pub stamped-not-zero : (k : Check) (s : List ℕ) → k .field + 1 < length s → fieldOf (k .field) (stamped k s) ≢ 0
 stamped-not-zero k s h e = omega (arith, e, stamped-field k s h, written-positive (65535 - sumOf (range (k .from) (k .to) (withField (k .field) 0 s))))
 
 pub stamped-other : (k : Check) (s : List ℕ) (i : ℕ) → (i ≡ k .field → ⊥) → (i ≡ k .field + 1 → ⊥) → getD (stamped k s) i 0 ≡ getD s i 0
-unfolding stamped withField
-stamped-other k s i a b = getD-set-other (set s (k .field) _) (k .field + 1) i _ 0 b ∙ getD-set-other s (k .field) i _ 0 a
+unfolding withField
+stamped-other k s i a b = ap (λ (l : List ℕ). getD l i 0) (stamped-is k s) ∙ getD-set-other (set s (k .field) _) (k .field + 1) i _ 0 b ∙ getD-set-other s (k .field) i _ 0 a
 
 -- so the sum decides, and is FFFFh
 pub stamp-passes : (k : Check) (s : List ℕ) → Bytes s → k .to ≤ length s → unfitField k ≡ false → passes k (stamped k s) ≡ true
-unfolding stamped
 stamp-passes k s b he hf =
     let z = range (k .from) (k .to) (withField (k .field) 0 s) in
     let bz = range-bytes (k .from) (k .to) (withField (k .field) 0 s) (withField-bytes (k .field) 0 s b (omega arith)) in
     let fit = fit-field k hf in
-    passes-total k _ (λ e. omega arith) (stamped-not-zero k s (omega arith)) (stamped-bytes k s b)
-    ∙ ap multiple (total-withField k s fit he (asWritten (65535 - sumOf z)) ∙ ap (λ (x : ℕ). total z + asWritten (65535 - x)) (sum-reduced z bz))
+    passes-total k (stamped k s) (λ e. omega arith) (stamped-not-zero k s (omega arith)) (stamped-bytes k s b)
+    ∙ ap multiple (ap (λ (l : List ℕ). total (range (k .from) (k .to) l)) (stamped-is k s) ∙ total-withField k s fit he (asWritten (65535 - sumOf z)) ∙ ap (λ (x : ℕ). total z + asWritten (65535 - x)) (sum-reduced z bz))
     ∙ complete (total z)

@@ -12,7 +12,7 @@ use lib.ListN.{length, getD, drop, drop-of-length-le}
 use Rattle.base.proofs.Cases.{by-test}
 use Rattle.packet.specs.Packet.{Bytes}
 use Rattle.checksum.specs.Checksum.{words, folded, sumFrom, sumOf, plain, total, reduced}
-use Rattle.checksum.specs.Totals.{multiple}
+use Rattle.checksum.specs.Shares.{multiple}
 
 -- the equations of the definitions
 

@@ -1,3 +1,3 @@
 pub mod Checksum
 pub mod Calls
-pub mod Totals
+pub mod Shares

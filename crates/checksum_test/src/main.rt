@@ -2,8 +2,8 @@
 use checksum::Check;
 use checksum::StampAnswer;
 use checksum::check_of;
+use crc::RemainderAnswer;
 use libc::STDOUT_FILENO;
-use packet::RemainderAnswer;
 use poly::Generator;
 
 // Arguments for a, e and the field: those about a packet of six bytes, and some whose sums or products wrap.
@@ -103,9 +103,9 @@ fn show_places(generator: u64) {
 // Stamped and then sealed: the remainder, and the sum of the range.
 fn show_both(generator: u64, check: Check, packet: &mut [u8]) {
     show_answer(checksum::stamp(generator, check, packet));
-    packet::seal(generator, 0, 0, packet);
+    crc::seal(generator, 0, 0, packet);
     testkit::print(b" ");
-    match packet::remainder(generator, 0, 0, packet) {
+    match crc::remainder(generator, 0, 0, packet) {
         RemainderAnswer::Remainder(r) => {
             io::print_hex(STDOUT_FILENO, r, 1);
         }

@@ -19,13 +19,13 @@ use Rattle.poly.specs.Fit.{Fit}
 use Rattle.poly.specs.declared.Generator.{Generator}
 use Rattle.poly.proofs.GeneratorLaws.{fit-accepted, fit-small}
 use Rattle.poly.proofs.DivisionLaws.{quotient, remainder-unique}
-use Rattle.packet.specs.Packet.{Bytes, bits, unfitLength, unfitValues, asRead, remainder, sealed, bitAt, flips}
-use Rattle.packet.specs.Calls.{packetConditions, remainderCall, sealCall, sealPacket}
+use Rattle.packet.specs.Packet.{Bytes, bits, unfitLength, unfitValues, asRead, remainder, bitAt, flips}
+use Rattle.crc.specs.Calls.{sealed, packetConditions, remainderCall, sealCall, sealPacket}
 use Rattle.packet.specs.declared.Crc.{Crc}
 use Rattle.packet.proofs.PacketLaws.{fit-length, fit-values}
 use Rattle.packet.proofs.FlipLaws.{flips-length}
 use Rattle.packet.proofs.RemainderLaws.{remainder-lt, remainder-flips}
-use Rattle.packet.proofs.SealLaws.{sealed-length, sealed-remainder, sealed-same, sealed-bit, sealed-only}
+use Rattle.crc.proofs.SealLaws.{sealed-length, sealed-remainder, sealed-same, sealed-bit, sealed-only}
 use Rattle.checksum.specs.Checksum.{total, reduced, range, fieldOf, passes, withField, asWritten, stamped}
 use Rattle.checksum.specs.Calls.{sumCall, stampConditions, stampCall, stampPacket}
 use Rattle.checksum.specs.declared.Check.{Check}
@@ -33,7 +33,6 @@ use Rattle.checksum.proofs.SumLaws.{sum-reduced}
 use Rattle.checksum.proofs.RangeLaws.{sum-decides}
 use Rattle.checksum.proofs.ConditionLaws.{FitRange, fit-range, fit-field}
 use Rattle.checksum.proofs.StampLaws.{written-for-zero, ffff-sums-as-zero, stamped-length, stamped-bytes, stamped-field, stamped-not-zero, stamped-other, stamp-passes}
-use Rattle.checksum.proofs.SealedRangeLaws.{sealed-passes}
 use Rattle.tables.specs.Tables.{power, period, stepTable, firstTable}
 use Rattle.tables.specs.Calls.{tablesConditions, tablesCall, stepsAfter, firstsAfter}
 use Rattle.tables.proofs.StepLaws.{step-is, step-inverts}
@@ -43,6 +42,7 @@ use Rattle.tables.proofs.TableLaws.{length-stepTable, length-firstTable, getD-s
 use Rattle.verdicts.specs.Verdicts.{passesBoth}
 use Rattle.demands.specs.Demand2.{Numbered, Reads, Remains, Stepped, FirstAt, IsPeriod}
 use Rattle.demands.proofs.ReadBits.{bits-read}
+use Rattle.demands.proofs.SealedRangeLaws.{sealed-passes}
 
 -- ---- remainders and seals are division of binary polynomials ----
 
@@ -212,11 +212,12 @@ module _ (g : ℕ) (k : Check) (s : List ℕ) (b : Bytes s) (h : stampCall g k s
   pub stamp-made-to-pass : passes k (stampPacket g k s) ≡ true
   stamp-made-to-pass = ap (passes k) stamp-leaves ∙ stamp-passes k s b inside (conditions-clear 10)
 
-  -- the field holds what the sum of the range, with zeros in the field, lacks to FFFFh, written as FFFFh where that is 0; and no other
-  -- byte changed
-  pub stamp-writes : (fieldOf (k .field) (stampPacket g k s) ≡ asWritten (65535 - sumCall (range (k .from) (k .to) (withField (k .field) 0 s))))
+  -- the packet is as long as before, its field holds what the sum of the range, with zeros in the field, lacks to FFFFh, written as FFFFh
+  -- where that is 0, and no other byte changed
+  pub stamp-writes : (length (stampPacket g k s) ≡ length s)
+      × (fieldOf (k .field) (stampPacket g k s) ≡ asWritten (65535 - sumCall (range (k .from) (k .to) (withField (k .field) 0 s))))
       × ((i : ℕ) → (i ≡ k .field → ⊥) → (i ≡ k .field + 1 → ⊥) → getD (stampPacket g k s) i 0 ≡ getD s i 0)
-  stamp-writes = rw stamp-leaves (stamped-field k s field-inside, stamped-other k s)
+  stamp-writes = rw stamp-leaves (stamped-length k s, stamped-field k s field-inside, stamped-other k s)
 
   -- so it never says that no checksum was made
   pub stamp-never-zero : fieldOf (k .field) (stampPacket g k s) ≢ 0

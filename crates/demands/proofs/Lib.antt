@@ -1,4 +1,5 @@
 pub mod ReadBits
+pub mod SealedRangeLaws
 pub mod Demand2
 pub mod Demand3
 pub mod PlainCalls

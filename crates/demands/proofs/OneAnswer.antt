@@ -5,12 +5,12 @@ use mathlib.Core.List.{List, [], _∷_}
 use Prim.Native.Nat.{ℕ}
 use Rattle.base.proofs.RefusalLaws.{number-tells}
 use Rattle.base.proofs.JudgeLaws.{refused-number}
-use Rattle.packet.specs.Calls.{remainderAnswer, remainderCall, sealAnswer, sealCall, sealPacket}
+use Rattle.crc.specs.Calls.{remainderAnswer, remainderCall, sealAnswer, sealCall, sealPacket}
 use Rattle.packet.specs.declared.Crc.{Crc}
-use Rattle.packet.specs.declared.RemainderAnswer.{RemainderAnswer}
-use Rattle.packet.specs.declared.RemainderAnswer.the-variants as RemainderAnswer-cases
-use Rattle.packet.specs.declared.SealAnswer.{SealAnswer}
-use Rattle.packet.specs.declared.SealAnswer.the-variants as SealAnswer-cases
+use Rattle.crc.specs.declared.RemainderAnswer.{RemainderAnswer}
+use Rattle.crc.specs.declared.RemainderAnswer.the-variants as RemainderAnswer-cases
+use Rattle.crc.specs.declared.SealAnswer.{SealAnswer}
+use Rattle.crc.specs.declared.SealAnswer.the-variants as SealAnswer-cases
 use Rattle.patterns.specs.Patterns.{positions}
 use Rattle.patterns.specs.declared.Pattern.{Pattern}
 use Rattle.patterns.specs.declared.Pattern.the-variants.{Empty, One, Two, Three, Four}

@@ -7,8 +7,8 @@ use Prim.Native.Nat.{ℕ}
 use borrow.Author.Tests.{lt-leb}
 use lib.Pow.{pow-pos}
 use Rattle.poly.specs.Polynomial.{rem}
-use Rattle.packet.specs.Packet.{unfitValues, remainder, sealed}
-use Rattle.packet.specs.Calls.{remainderCall, sealCall, sealPacket}
+use Rattle.packet.specs.Packet.{unfitValues, remainder}
+use Rattle.crc.specs.Calls.{sealed, remainderCall, sealCall, sealPacket}
 use Rattle.packet.specs.declared.Crc.{Crc}
 use Rattle.packet.proofs.ReadLaws.{read-plain}
 use Rattle.verdicts.specs.Verdicts.{passesBoth, candidates}

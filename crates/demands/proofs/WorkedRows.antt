@@ -2,7 +2,8 @@
 use mathlib.Core.Path.{refl}
 use Rattle.poly.specs.Polynomial.{down, downIn, degree, degreeIn, reduce, rem, powers}
 use Rattle.poly.specs.Generators.{unfit}
-use Rattle.packet.specs.Packet.{polynomial, polynomialAfter, bytes, unfitLength, unfitValues, asRead, remainder, sealed, flip, flips}
+use Rattle.packet.specs.Packet.{polynomial, polynomialAfter, bytes, unfitLength, unfitValues, asRead, remainder, flip, flips}
+use Rattle.crc.specs.Calls.{sealed}
 use Rattle.tables.specs.Tables.{power, least, period, step, first}
 use Rattle.checksum.specs.Checksum.{words, folded, sumFrom, sumOf, range, fieldOf, passes, unfitRange, unfitField, withField, asWritten, stamped}
 use Rattle.maker.specs.Stream.{nextState, byteOf, yielded, stateAfter}

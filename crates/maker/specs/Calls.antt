@@ -5,8 +5,9 @@ use lib.ListN.{length}
 use Rattle.base.specs.Outcome.{Outcome, refused, accepted, Condition, when, judge}
 use Rattle.base.specs.Refusals.{number}
 use Rattle.poly.specs.Generators.{unfit}
-use Rattle.packet.specs.Packet.{bits, unfitLength, unfitValues, sealed}
+use Rattle.packet.specs.Packet.{bits, unfitLength, unfitValues}
 use Rattle.packet.specs.declared.Crc.{Crc}
+use Rattle.crc.specs.Calls.{sealed}
 use Rattle.checksum.specs.Checksum.{unfitRange, unfitField, stamped}
 use Rattle.checksum.specs.declared.Check.{Check}
 use Rattle.maker.specs.Stream.{yielded, stateAfter}

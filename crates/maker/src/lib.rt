@@ -2,14 +2,16 @@
 use base::Judgement;
 use base::Refusal;
 use checksum::Check;
+use packet::Crc;
 use poly::Generator;
 ghost use mathlib.Core.Path.{_≡_};
-ghost use Prim.Native.Nat.{_*_, _%_, _^_};
+ghost use Prim.Native.Nat.{_+_, _*_, _%_, _^_, _≤_};
 ghost use lib.ListN.{length};
 ghost use Rattle.base.specs.Judged.{judgement, judged};
 ghost use Rattle.packet.specs.Packet.{crcOf};
+ghost use Rattle.packet.specs.Reading.{Readable};
 ghost use Rattle.maker.specs.Stream.{nextState, byteOf, yielded, stateAfter};
-ghost use Rattle.maker.specs.Calls.{makeConditions, makeAnswer, makeCall, makePacket};
+ghost use Rattle.maker.specs.Calls.{made, makeConditions, makeAnswer, makeCall, makePacket};
 
 pub enum MakeAnswer {
     Made(u32),
@@ -58,11 +60,24 @@ pub fn fill(packet: &mut [u8], seed: u32) -> u32
     state
 }
 
+// Makes a packet from a seed, by numbers that are known to be accepted: bytes of the stream, stamped and then sealed. The answer is the
+// final state.
+pub fn make_accepted(crc: Crc, seed: u32, check: Check, packet: &mut [u8]) -> u32
+    requires { ⌜ Readable crc (now packet) × (check .from ≤ check .field) × (check .field + 2 ≤ check .to) × (check .to ≤ length (now packet)) ⌝ }
+    ensures state { λ r. ⌜ r ≡ stateAfter (length (now (packet .entry))) seed ⌝ }
+    ensures bytes { λ _. ⌜ now (packet .exit) ≡ made crc seed check (length (now (packet .entry))) ⌝ }
+{
+    let state = fill(packet, seed);
+    checksum::fill_field(packet, check);
+    crc::fill_crc(packet, crc);
+    state
+}
+
 // The conditions of the maker, in their order.
 fn judge_make(generator: u64, init: u64, xorout: u64, check: Check, len: usize) -> Judgement
     ensures { λ r. ⌜ judgement r ≡ judged (makeConditions (crcOf generator init xorout) (8 * len) check) ⌝ }
 {
-    let judged = packet::judge_packet(generator, init, xorout, len);
+    let judged = crc::judge_packet(generator, init, xorout, len);
     if let Judgement::Refused(r) = judged {
         return Judgement::Refused(r);
     }
@@ -76,7 +91,6 @@ fn judge_make(generator: u64, init: u64, xorout: u64, check: Check, len: usize) 
     Judgement::Passed
 }
 
-// Makes a packet from a seed: bytes of the stream, stamped and then sealed. The answer is the final state.
 pub fn make(
     generator: u64,
     init: u64,
@@ -92,10 +106,8 @@ pub fn make(
     match judged {
         Judgement::Refused(r) => MakeAnswer::Refused(r),
         Judgement::Passed => {
-            let state = fill(packet, seed);
-            // neither of these is refused: their conditions were judged above
-            checksum::stamp(generator, check, packet);
-            packet::seal(generator, init, xorout, packet);
+            let crc = packet::crc_of(generator, init, xorout);
+            let state = make_accepted(crc, seed, check, packet);
             MakeAnswer::Made(state)
         }
     }

@@ -65,6 +65,11 @@ polynomial-below s b = rw (← byte-power (length s)) (polynomial-lt s b)
 
 -- ---- one position
 
+-- the byte that holds it, and its place there
+pub flip-is : (s : List ℕ) (p : ℕ) → flip s p ≡ set s (length s - 1 - p / 8) (bitXor (getD s (length s - 1 - p / 8) 0) (2 ^ (p % 8)))
+unfolding flip
+flip-is s p = ap₂ (λ (i k : ℕ). set s i (bitXor (getD s i 0) (2 ^ k))) (omega arith) (omega arith)
+
 -- the byte of a position, and how many bytes stand behind it
 place : List ℕ → ℕ → ℕ
 place s p = length s - 1 - p / 8
@@ -100,7 +105,7 @@ module _ (s : List ℕ) (p : ℕ) (below : p < bits s) where
   rest-lt h = rw (← behind) (polynomial-lt (drop (suc (place s p)) s) (λ i. rw (getD-drop (suc (place s p)) s i 0) (h (suc (place s p) + i))))
 
   pub polynomial-flip : Bytes s → polynomial (flip s p) ≡ bitXor (polynomial s) (2 ^ p)
-  unfolding flip place
+  unfolding place
   polynomial-flip h =
       let a : ℕ = polynomial (take (place s p) s) in
       let b : ℕ = getD s (place s p) 0 in
@@ -108,7 +113,8 @@ module _ (s : List ℕ) (p : ℕ) (below : p < bits s) where
       let k : ℕ = 8 * (p / 8) in
       let c-lt : c < 2 ^ k = rw (← byte-power (p / 8)) (rest-lt h) in
       let low-bits : bitXor (a * 256 + b) (0 * 256 + 2 ^ (p % 8)) ≡ bitXor a 0 * 256 + bitXor b (2 ^ (p % 8)) = xor-block 8 a 0 b (2 ^ (p % 8)) (h (place s p)) bit-power-lt in
-      around (bitXor b (2 ^ (p % 8)))
+      ap polynomial (flip-is s p)
+      ∙ around (bitXor b (2 ^ (p % 8)))
       ∙ sym
       (ap₂ bitXor (whole ∙ ap (λ (x : ℕ). (a * 256 + b) * x + c) (byte-power (p / 8))) (power-at ∙ ap (λ (x : ℕ). 2 ^ (p % 8) * x) (byte-power (p / 8)) ∙ sym (add-zero (2 ^ (p % 8) * 2 ^ k)))
       ∙ xor-block k (a * 256 + b) (2 ^ (p % 8)) c 0 c-lt (pow-pos k)
@@ -138,29 +144,29 @@ module _ (s : List ℕ) (p : ℕ) (below : p < bits s) where
       ∙ ap (λ (x : ℕ). x % 2) (sym high-bits)
 
   pub flip-bytes : Bytes s → Bytes (flip s p)
-  unfolding flip place
+  unfolding place
   flip-bytes h i =
-      by-equal i (place s p)
+      rw (flip-is s p)
+      (by-equal i (place s p)
       (λ e. rw (e, getD-set-same s (place s p) (bitXor (getD s (place s p) 0) (2 ^ (p % 8))) 0 place-lt) (xor-lt 8 (getD s (place s p) 0) (2 ^ (p % 8)) (h (place s p)) bit-power-lt))
-      (λ e. rw (getD-set-other s (place s p) i (bitXor (getD s (place s p) 0) (2 ^ (p % 8))) 0 e) (h i))
+      (λ e. rw (getD-set-other s (place s p) i (bitXor (getD s (place s p) 0) (2 ^ (p % 8))) 0 e) (h i)))
 
 pub flip-length : (s : List ℕ) (p : ℕ) → length (flip s p) ≡ length s
-unfolding flip
-flip-length s p = length-set s _ _
+flip-length s p = ap length (flip-is s p) ∙ length-set s _ _
 
 -- ---- the other bits stay
 
 bitAt-same-byte : (s : List ℕ) (p q : ℕ) → p < bits s → p / 8 ≡ q / 8 → p % 8 ≢ q % 8 → bitAt (flip s p) q ≡ bitAt s q
-unfolding bitAt flip
+unfolding bitAt
 bitAt-same-byte s p q hp e h =
     let i : length s - 1 - p / 8 < length s = omega arith in
-    rw (length-set, ← e, getD-set-same s (length s - 1 - p / 8) _ 0 i) (xor-other (getD s (length s - 1 - p / 8) 0) (p % 8) (q % 8) h)
+    rw (flip-is s p, length-set, ← e, getD-set-same s (length s - 1 - p / 8) _ 0 i) (xor-other (getD s (length s - 1 - p / 8) 0) (p % 8) (q % 8) h)
 
 bitAt-other-byte : (s : List ℕ) (p q : ℕ) → p < bits s → q < bits s → p / 8 ≢ q / 8 → bitAt (flip s p) q ≡ bitAt s q
-unfolding bitAt flip
+unfolding bitAt
 bitAt-other-byte s p q hp hq h =
     let i : length s - 1 - q / 8 ≢ length s - 1 - p / 8 = λ e. h (omega arith) in
-    rw (length-set, getD-set-other s (length s - 1 - p / 8) (length s - 1 - q / 8) _ 0 i) refl
+    rw (flip-is s p, length-set, getD-set-other s (length s - 1 - p / 8) (length s - 1 - q / 8) _ 0 i) refl
 
 pub bitAt-flip-other : (s : List ℕ) (p q : ℕ) → p < bits s → q < bits s → p ≢ q → bitAt (flip s p) q ≡ bitAt s q
 bitAt-flip-other s p q hp hq h =

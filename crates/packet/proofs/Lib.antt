@@ -1,9 +1,5 @@
 pub mod PacketLaws
-pub mod CancelLaws
-pub mod DivideLaws
 pub mod FlipLaws
 pub mod DifferenceLaws
 pub mod ReadLaws
-pub mod CcittLaws
 pub mod RemainderLaws
-pub mod SealLaws

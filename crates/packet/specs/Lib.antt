@@ -1,4 +1,2 @@
 pub mod Packet
-pub mod Calls
-pub mod Cancelling
 pub mod Reading

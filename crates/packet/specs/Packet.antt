@@ -56,10 +56,6 @@ asRead c s = bitXor (bitXor (polynomial s) (c .init * 2 ^ (bits s - c .generator
 unfoldable pub remainder : Crc → List ℕ → ℕ
 remainder c s = rem (c .generator .degree) (c .generator .coefficients) (asRead c s)
 
--- the packet whose last n bits are set so that its remainder is 0; SealLaws has that it is the only one
-unfoldable pub sealed : Crc → List ℕ → List ℕ
-sealed c s = bytes (length s) (bitXor (polynomial s) (remainder c s))
-
 -- the bit at a position
 unfoldable pub bitAt : List ℕ → ℕ → ℕ
 bitAt s p = getD s (length s - 1 - p / 8) 0 / 2 ^ (p % 8) % 2

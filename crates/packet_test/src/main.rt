@@ -2,9 +2,9 @@
 //
 // The input: the number of cases, then for each the high and low 32 bits of the generator, of the initial
 // and of the final value, the packet's length in bytes, and its bytes as testkit::read_packet takes them.
+use crc::RemainderAnswer;
+use crc::SealAnswer;
 use libc::STDIN_FILENO;
-use packet::RemainderAnswer;
-use packet::SealAnswer;
 
 // The numbers that a CRC is taken by.
 struct Setting {
@@ -14,14 +14,14 @@ struct Setting {
 }
 
 fn print_remainder(set: Setting, packet: &[u8], separator: u8) {
-    match packet::remainder(set.generator, set.init, set.xorout, packet) {
+    match crc::remainder(set.generator, set.init, set.xorout, packet) {
         RemainderAnswer::Remainder(r) => testkit::print_number(r, separator),
         RemainderAnswer::Refused(r) => testkit::print_refused(r, separator),
     }
 }
 
 fn print_seal(set: Setting, packet: &mut [u8]) {
-    match packet::seal(set.generator, set.init, set.xorout, packet) {
+    match crc::seal(set.generator, set.init, set.xorout, packet) {
         SealAnswer::Sealed => testkit::print(b"sealed "),
         SealAnswer::Refused(r) => testkit::print_refused(r, b' '),
     }

@@ -1,9 +1,9 @@
 // The library as C functions, which include/rangqoda.h documents. Each calls one call of the layers below and takes its
 // answer apart: a number is returned, and what else there is to tell goes into lent memory.
 use checksum::StampAnswer;
+use crc::RemainderAnswer;
+use crc::SealAnswer;
 use maker::MakeAnswer;
-use packet::RemainderAnswer;
-use packet::SealAnswer;
 use pages::PageAnswer;
 use patterns::LONGEST_RECORD;
 use patterns::MOST_POSITIONS;
@@ -20,7 +20,7 @@ ghost use lib.Dec.{eqb};
 ghost use lib.ListN.{length, drop, replicate};
 ghost use Rattle.base.specs.Outcome.{pick};
 ghost use Rattle.packet.specs.Packet.{bytes, crcOf};
-ghost use Rattle.packet.specs.Calls.{remainderCall, sealCall, sealPacket};
+ghost use Rattle.crc.specs.Calls.{remainderCall, sealCall, sealPacket};
 ghost use Rattle.checksum.specs.Checksum.{checkOf};
 ghost use Rattle.checksum.specs.Calls.{sumCall, stampCall, stampPacket};
 ghost use Rattle.maker.specs.Calls.{makeCall, makePacket};
@@ -74,7 +74,7 @@ pub extern "C" fn rangqoda_remainder(
     ensures answer { λ r. ⌜ r ≡ code (remainderCall (crcOf generator init xorout) (now (packet .entry))) ⌝ }
     ensures remainder { λ _. ⌜ now (remainder .exit) ≡ changed (now (remainder .entry)) (λ v. v) (remainderCall (crcOf generator init xorout) (now (packet .entry))) ⌝ }
 {
-    let answer = packet::remainder(generator, init, xorout, packet);
+    let answer = crc::remainder(generator, init, xorout, packet);
     match answer {
         RemainderAnswer::Refused(r) => base::number_of(r),
         RemainderAnswer::Remainder(v) => {
@@ -89,7 +89,7 @@ pub extern "C" fn rangqoda_seal(generator: u64, init: u64, xorout: u64, packet: 
     ensures answer { λ r. ⌜ r ≡ code (sealCall (crcOf generator init xorout) (now (packet .entry))) ⌝ }
     ensures packet { λ _. ⌜ now (packet .exit) ≡ sealPacket (crcOf generator init xorout) (now (packet .entry)) ⌝ }
 {
-    let answer = packet::seal(generator, init, xorout, packet);
+    let answer = crc::seal(generator, init, xorout, packet);
     match answer {
         SealAnswer::Refused(r) => base::number_of(r),
         SealAnswer::Sealed => 0,

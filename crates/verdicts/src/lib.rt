@@ -2,12 +2,12 @@
 // and the mended packet. The candidates are tallied in the order in which a cursor meets them, and the verdict does not depend on
 // that order.
 use checksum::Check;
-use checksum::Weighed;
 use cursor::Cursor;
 use packet::Crc;
 use patterns::MOST_POSITIONS;
 use patterns::Pattern;
 use search::Found;
+use weighing::Weighed;
 ghost use mathlib.Core.Path.{_≡_};
 ghost use mathlib.Core.Bool.{_&&_};
 ghost use mathlib.Core.List.{List, _++_};
@@ -17,7 +17,7 @@ ghost use lib.ListN.{length};
 ghost use Rattle.base.specs.Lists.{All};
 ghost use Rattle.packet.specs.Packet.{bits, flips};
 ghost use Rattle.checksum.specs.Checksum.{passes};
-ghost use Rattle.checksum.specs.Totals.{Weighs};
+ghost use Rattle.weighing.specs.Totals.{Weighs};
 ghost use Rattle.patterns.specs.Patterns.{mostPositions, positions};
 ghost use Rattle.patterns.specs.Order.{before};
 ghost use Rattle.patterns.specs.Listing.{listing, sift, inOrder};
@@ -91,7 +91,7 @@ fn tally_from(
                 return t;
             }
             Found::At(k) => {
-                let ok = checksum::passes_flipped(w, packet, &pos[..k]);
+                let ok = weighing::passes_flipped(w, packet, &pos[..k]);
                 t = tally_one(t, ok, &pos[..k]);
                 ahead = cursor::meet_next(cursor, pow, first, pos, k);
             }
@@ -153,7 +153,7 @@ fn both_pass(syndrome: u64, w: Weighed, packet: &[u8]) -> bool
     if syndrome != 0 {
         return false;
     }
-    checksum::passes_received(w, packet)
+    weighing::passes_received(w, packet)
 }
 
 // The verdict on a packet, by powers, first positions and a period that serve its generator and length.
@@ -170,8 +170,8 @@ fn settle(
     ensures { λ r. ⌜ said r ≡ verdict crc check limit (now (packet .entry)) ⌝ }
 {
     let generator = crc.generator;
-    let syndrome = packet::remainder_of(crc, packet);
-    let w = checksum::weigh(check, packet);
+    let syndrome = remainders::remainder_of(crc, packet);
+    let w = weighing::weigh(check, packet);
     if both_pass(syndrome, w, packet) {
         return Verdict::Intact;
     }

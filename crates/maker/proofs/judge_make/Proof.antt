@@ -10,7 +10,7 @@ use Rattle.base.proofs.JudgeLaws.{turned-down, none-applies, Untested, all, but
 use Rattle.poly.specs.Polynomial.{degree}
 use Rattle.poly.specs.declared.Generator.{Generator}
 use Rattle.packet.specs.Packet.{crcOf}
-use Rattle.packet.specs.Calls.{packetConditions}
+use Rattle.crc.specs.Calls.{packetConditions}
 use Rattle.checksum.specs.Checksum.{unfitRange}
 use Rattle.maker.specs.Calls.{makeConditions}
 use Rattle.maker.proofs.judge_make.Statement.{statement}

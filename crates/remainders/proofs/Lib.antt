@@ -1,0 +1,4 @@
+pub mod CancelLaws
+pub mod DivideLaws
+pub mod RegisterLaws
+pub mod CcittLaws
