@@ -62,8 +62,16 @@ module _ (ps held : List ℕ) (e : held ≡ spreadOut ps) where
   pub spread-take : take (length ps) held ≡ ps
   spread-take = rw e (take-append-seam ps (replicate (mostPositions - length ps) 0))
 
-  pub spread-length : length ps ≤ mostPositions → length held ≡ mostPositions
+  spread-length : length ps ≤ mostPositions → length held ≡ mostPositions
   spread-length h = rw e (simp (length-append, length-replicate) (omega arith))
+
+-- it holds all of a pattern's positions, and the first of it, as many as are counted, are they
+module _ (p : Pattern) {held : List ℕ} {n : ℕ} (e : held ≡ spreadOut (positions p)) (counted : n ≡ length (positions p)) where
+  pub spread-holds : n ≤ length held
+  spread-holds = let few = positions-most p in omega (arith, spread-length (positions p) held e few)
+
+  pub spread-held : take n held ≡ positions p
+  spread-held = rw counted (spread-take (positions p) held e)
 
 -- a turn of a loop that copies s over the front of d
 pub copy-turn : (d s cur : List ℕ) (j : ℕ) → cur ≡ take j s ++ drop j d → j < length d → j < length s

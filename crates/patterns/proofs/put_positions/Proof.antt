@@ -6,7 +6,7 @@ use mathlib.Core.Path.{_≡_, refl, _∙_}
 use mathlib.Core.List.{List, _++_}
 use Prim.Native.Nat.{ℕ, _+_, _≤_, _-_}
 use Rattle.patterns.specs.Patterns.{positions}
-use Rattle.patterns.proofs.PositionLaws.{positions-most, spread-take, spread-length, copy-turn}
+use Rattle.patterns.proofs.PositionLaws.{spread-take, spread-holds, copy-turn}
 use lib.ListN.{length, take, drop, getD, length-set}
 use Rattle.patterns.proofs.put_positions.Statement.{statement}
 use Rattle.patterns.proofs.put_positions.Tie as tie
@@ -25,10 +25,9 @@ record Held (count : ℕ) (held pos : List ℕ) : Type 0 where
 facts : (c : tie.At-loop Inv-loop μ-loop) → Held (c .before .count-of .result) (c .before .before .spread .result) (c .before .before .before .before .args .pos .now)
 facts c =
     let p = c .before .before .before .before .args .p in
-    let few = positions-most p in
     let e : c .before .count-of .result ≡ length (positions p) = c .before .count-of .ensures in
     record {
-      within = omega (arith, spread-length (positions p) (c .before .before .spread .result) (c .before .before .spread .ensures) few);
+      within = spread-holds p (c .before .before .spread .ensures) e;
       room = omega arith;
     }
 

@@ -6,7 +6,7 @@ use lib.ListN.{length, take}
 use lib.Seq.{length-take-le}
 use Rattle.patterns.specs.Patterns.{positions}
 use Rattle.patterns.specs.Listing.{ascending}
-use Rattle.patterns.proofs.PositionLaws.{positions-most, spread-take, spread-length}
+use Rattle.patterns.proofs.PositionLaws.{spread-holds, spread-held}
 use Rattle.patterns.proofs.MarkLaws.{many-unfit, few-unfit}
 use borrow.Author.Needs.{needs}
 use Rattle.patterns.proofs.unfit_pattern.Statement.{statement}
@@ -17,10 +17,7 @@ counted c = c .count-of .ensures
 
 -- the array holds them all
 enough : (c : tie.After-count-of) → c .count-of .result ≤ length (c .before .spread .result)
-enough c =
-    let p = c .before .before .args .p in
-    let few = positions-most p in
-    omega (arith, counted c, spread-length (positions p) (c .before .spread .result) (c .before .spread .ensures) few)
+enough c = spread-holds (c .before .before .args .p) (c .before .spread .ensures) (counted c)
 
 returns : tie.Need-returns
 returns c =
@@ -39,8 +36,8 @@ returns-2 c =
     let start = c .before .before .before .before .before .args in
     let e = counted (c .before .before .before) in
     let a : c .ascends .result ≡ ascending (start .l) 0 (take (c .before .before .before .count-of .result) (c .before .before .before .before .spread .result)) = c .ascends .ensures in
-    let t = spread-take (positions (start .p)) (c .before .before .before .before .spread .result) (c .before .before .before .before .spread .ensures) in
-    rw (a, e, t) (sym (few-unfit (start .l) (start .limit) (positions (start .p)) (omega arith)))
+    let t = spread-held (start .p) (c .before .before .before .before .spread .ensures) e in
+    rw (a, t) (sym (few-unfit (start .l) (start .limit) (positions (start .p)) (omega arith)))
 
 pub unfit-pattern-spec : {M : Type 1} → statement M
 unfit-pattern-spec =

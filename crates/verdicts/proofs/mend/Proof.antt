@@ -1,29 +1,23 @@
 -- `mend` copies the packet and flips the pattern's positions in the copy.
-use mathlib.Core.Path.{_≡_, sym, ap, ap₂, subst₂, _∙_}
+use mathlib.Core.Path.{_≡_, sym, ap₂, subst₂, _∙_}
 use mathlib.Core.List.{List}
 use Prim.Native.Nat.{ℕ, _≤_, _<_}
-use native.Mathlib.Omega.{arith}
 use borrow.Author.Needs.{needs}
 use lib.ListN.{length, take}
 use lib.Seq.{length-take-le}
 use Rattle.base.specs.Lists.{All}
 use Rattle.packet.specs.Packet.{bits, flips}
 use Rattle.patterns.specs.Patterns.{positions}
-use Rattle.patterns.proofs.PositionLaws.{positions-most, spread-take, spread-length}
+use Rattle.patterns.proofs.PositionLaws.{spread-holds, spread-held}
 use Rattle.verdicts.proofs.mend.Statement.{statement}
 use Rattle.verdicts.proofs.mend.Tie as tie
 
 -- the array holds the pattern's positions in front
 held : (c : tie.After-count-of) → take (c .count-of .result) (c .before .spread .result) ≡ positions (c .before .before .before .before .before .before .before .before .args .p)
-held c =
-    let p = c .before .before .before .before .before .before .before .before .args .p in
-    ap (λ (k : ℕ). take k (c .before .spread .result)) (c .count-of .ensures) ∙ spread-take (positions p) (c .before .spread .result) (c .before .spread .ensures)
+held c = spread-held (c .before .before .before .before .before .before .before .before .args .p) (c .before .spread .ensures) (c .count-of .ensures)
 
 enough : (c : tie.After-count-of) → c .count-of .result ≤ length (c .before .spread .result)
-enough c =
-    let p = c .before .before .before .before .before .before .before .before .args .p in
-    let few = positions-most p in
-    omega (arith, c .count-of .ensures, spread-length (positions p) (c .before .spread .result) (c .before .spread .ensures) few)
+enough c = spread-holds (c .before .before .before .before .before .before .before .before .args .p) (c .before .spread .ensures) (c .count-of .ensures)
 
 array-share-prefix-held : tie.Need-array-share-prefix-held
 array-share-prefix-held c = enough (c .before)
