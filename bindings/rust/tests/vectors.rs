@@ -1,6 +1,8 @@
 //! Values worked by hand, published elsewhere or computed by other code: the rows of the rules' own table, the traps that they
 //! name, the check values of the catalogue of parametrised CRC algorithms, and packets made by `tests/maker_vectors.py`.
 
+mod reference;
+
 use rangqoda::{
     catalogue, gather, hand_back, make, page, remainder, repair, scatter, seal, stamp, sum, Crc, Mark, Pattern,
     Refusal, TableSlices, Tables, Verdict, CCITT, FIVE, NO_CHECKSUM, NO_POSITION,
@@ -21,7 +23,7 @@ fn pattern(positions: &[u16]) -> Pattern {
 /// A packet from the digits of its bits. Zero bits put before them change no remainder.
 fn bits(digits: &str) -> Vec<u8> {
     let number = u64::from_str_radix(digits, 2).unwrap();
-    number.to_be_bytes()[8 - digits.len().div_ceil(8)..].to_vec()
+    number.to_be_bytes()[8 - (digits.len() + 7) / 8..].to_vec()
 }
 
 // ---- the rules' table
@@ -318,7 +320,7 @@ fn no_pair_comes_twice_and_none_has_a_position_twice() {
         for syndrome in 0..8 {
             let found = list(generator, length, limit, syndrome);
             assert!(found.iter().all(|pattern| pattern.windows(2).all(|pair| pair[0] < pair[1])));
-            assert!(found.windows(2).all(|two| (two[0].len(), &two[0]) < (two[1].len(), &two[1])));
+            assert!(found.windows(2).all(|two| reference::order(&two[0], &two[1]).is_lt()));
         }
     }
 }
@@ -446,7 +448,7 @@ fn framed(width: u32, poly: u64, init: u64, refin: bool, xorout: u64) -> (Crc, V
     for &byte in b"123456789" {
         message = message << 8 | u128::from(if refin { byte.reverse_bits() } else { byte });
     }
-    let len = (72 + width as usize).div_ceil(8);
+    let len = (72 + width as usize + 7) / 8;
     let packet = (message << width).to_be_bytes()[16 - len..].to_vec();
     let generator = 1 << width | poly;
     (Crc { generator, init: undone(init, 8 * len as u32 - 72 - width, generator), xorout }, packet)
