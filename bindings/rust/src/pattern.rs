@@ -42,6 +42,7 @@ impl Pattern {
     pub const EMPTY: Pattern = Pattern { count: 0, positions: [0; MOST_POSITIONS] };
 
     /// The pattern of these positions, in this order; `None` for more than four.
+    #[must_use]
     pub fn new(positions: &[u16]) -> Option<Pattern> {
         let mut pattern = Pattern { count: u8::try_from(positions.len()).ok()?, ..Pattern::EMPTY };
         pattern.positions.get_mut(..positions.len())?.copy_from_slice(positions);
@@ -49,16 +50,19 @@ impl Pattern {
     }
 
     /// The positions.
+    #[must_use]
     pub fn as_slice(&self) -> &[u16] {
         &self.positions[..usize::from(self.count)]
     }
 
     /// How many positions there are.
+    #[must_use]
     pub fn len(&self) -> usize {
         usize::from(self.count)
     }
 
     /// Whether there are none.
+    #[must_use]
     pub fn is_empty(&self) -> bool {
         self.count == 0
     }
@@ -72,14 +76,16 @@ impl Pattern {
         }
     }
 
-    /// The pattern whose record the bytes begin with, and the record's length.
-    pub(crate) fn read(bytes: &[u8]) -> (Pattern, usize) {
-        let used = 1 + 2 * usize::from(bytes[0]);
-        let mut pattern = Pattern { count: bytes[0], ..Pattern::EMPTY };
-        for (position, place) in pattern.positions.iter_mut().zip(bytes[1..used].chunks_exact(2)) {
+    /// The pattern whose record the bytes begin with, and the record's length; `None` where they begin with none.
+    pub(crate) fn read(bytes: &[u8]) -> Option<(Pattern, usize)> {
+        let (&count, rest) = bytes.split_first()?;
+        let mut pattern = Pattern { count, ..Pattern::EMPTY };
+        let positions = pattern.positions.get_mut(..usize::from(count))?;
+        let places = rest.get(..2 * positions.len())?;
+        for (position, place) in positions.iter_mut().zip(places.chunks_exact(2)) {
             *position = u16::from_be_bytes([place[0], place[1]]);
         }
-        (pattern, used)
+        Some((pattern, 1 + places.len()))
     }
 }
 
@@ -108,6 +114,7 @@ pub enum Mark {
 
 impl Mark {
     /// The mark as the C functions take it.
+    #[must_use]
     pub fn to_bytes(self) -> [u8; MARK_BYTES] {
         let mut bytes = [0; MARK_BYTES];
         match self {
@@ -118,19 +125,30 @@ impl Mark {
         bytes
     }
 
-    /// The mark that the bytes stand for; `None` where the first of them is none that a mark has.
+    /// The mark that the bytes stand for; `None` where the first of them is none that a mark has. Bytes behind the mark are not read.
+    #[must_use]
     pub fn from_bytes(bytes: &[u8; MARK_BYTES]) -> Option<Mark> {
         match bytes[0] {
             MARK_START => Some(Mark::Start),
             MARK_ENDED => Some(Mark::Ended),
-            count if usize::from(count) <= MOST_POSITIONS => Some(Mark::After(Pattern::read(bytes).0)),
-            _ => None,
+            _ => Pattern::read(bytes).map(|(pattern, _)| Mark::After(pattern)),
         }
     }
 }
 
 /// What a repair found.
+///
+/// The compiler warns of one that is not read:
+///
+/// ```compile_fail
+/// #![deny(unused_must_use)]
+/// # use rangqoda::{Crc, Tables, FIVE};
+/// let tables = Tables::new(FIVE)?;
+/// tables.repair(Crc::plain(FIVE), 0..2, 0, 1, &[0x7F, 0xFF, 0x05], &mut [0; 3])?;
+/// # Ok::<(), rangqoda::Refusal>(())
+/// ```
 #[derive(Clone, Copy, Debug, PartialEq, Eq, Hash)]
+#[must_use = "only the verdict says whether the packet, the output or nothing may be published"]
 pub enum Verdict {
     /// The packet passes both checks as it is.
     Intact,
@@ -150,6 +168,7 @@ pub enum Verdict {
 
 impl Verdict {
     /// The verdict as the C functions write it.
+    #[must_use]
     pub fn to_bytes(self) -> [u8; VERDICT_BYTES] {
         let (kind, count, pattern) = match self {
             Verdict::Intact => (0, 0, Pattern::EMPTY),
@@ -166,13 +185,12 @@ impl Verdict {
         bytes
     }
 
-    /// The verdict that the bytes stand for; `None` where the kind or the count of positions is none that a verdict has.
+    /// The verdict that the bytes stand for; `None` where the kind or the count of positions is none that a verdict has. What the kind
+    /// has no use for is not read beyond that.
+    #[must_use]
     pub fn from_bytes(bytes: &[u8; VERDICT_BYTES]) -> Option<Verdict> {
-        if usize::from(bytes[9]) > MOST_POSITIONS {
-            return None;
-        }
         let count = u64::from_be_bytes(bytes[1..9].try_into().expect("eight bytes"));
-        let (pattern, _) = Pattern::read(&bytes[9..]);
+        let (pattern, _) = Pattern::read(&bytes[9..])?;
         match bytes[0] {
             0 => Some(Verdict::Intact),
             1 => Some(Verdict::Repaired(pattern)),

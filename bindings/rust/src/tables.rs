@@ -40,6 +40,7 @@ pub struct TableSlices<'a> {
 
 /// What a page holds and where the list goes on.
 #[derive(Clone, Copy, Debug, PartialEq, Eq, Hash)]
+#[must_use = "only its mark says whether the list has ended"]
 pub struct Page {
     /// How many bytes of the output the records take.
     pub used: usize,
@@ -54,15 +55,18 @@ impl Page {
     ///
     /// # Panics
     ///
-    /// Where `output` has fewer bytes than the page used, or other bytes than the page wrote.
+    /// Where `output` has fewer bytes than the page used. The iterator panics where these bytes are not as many records as the page
+    /// wrote. Nothing else is noticed: records that were written there since give their own patterns.
     pub fn patterns<'a>(&self, output: &'a [u8]) -> impl Iterator<Item = Pattern> + 'a {
-        let mut rest = &output[..self.used];
+        let (mut rest, mut left) = (&output[..self.used], self.written);
         std::iter::from_fn(move || {
-            if rest.is_empty() {
+            if left == 0 {
+                assert!(rest.is_empty(), "the output holds more than the page's records");
                 return None;
             }
-            let (pattern, used) = Pattern::read(rest);
+            let (pattern, used) = Pattern::read(rest).expect("the output holds the page's records");
             rest = &rest[used..];
+            left -= 1;
             Some(pattern)
         })
     }
@@ -141,16 +145,19 @@ impl Tables {
     }
 
     /// The generator that the tables belong to.
+    #[must_use]
     pub fn generator(&self) -> u64 {
         self.generator
     }
 
     /// The smallest positive c such that x^c leaves 1.
+    #[must_use]
     pub fn period(&self) -> u64 {
         self.period
     }
 
     /// Both tables, to be lent.
+    #[must_use]
     pub fn as_slices(&self) -> TableSlices<'_> {
         TableSlices { step: &self.step, first: &self.first }
     }
@@ -216,6 +223,7 @@ const LONG_PAGE: usize = 1 << 20;
 
 /// The patterns of a list, page after page. See [`Tables::patterns`].
 #[derive(Clone, Debug)]
+#[must_use = "patterns are read as they are asked for"]
 pub struct Patterns<'a> {
     tables: &'a Tables,
     length: usize,
@@ -249,7 +257,7 @@ impl Iterator for Patterns<'_> {
             self.output.resize(LONG_PAGE, 0);
             self.turn().expect("the first page was accepted, and its mark is the library's");
         }
-        let (pattern, used) = Pattern::read(&self.output[self.read..]);
+        let (pattern, used) = Pattern::read(&self.output[self.read..self.used]).expect("the library writes records");
         self.read += used;
         Some(pattern)
     }

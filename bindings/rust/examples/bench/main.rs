@@ -9,9 +9,17 @@ use rangqoda::{
     catalogue::CRC_16_XMODEM as CRC, remainder, seal, stamp, Mark, Pattern, Tables, Verdict, CCITT, FIVE, NO_CHECKSUM,
     RECORD_BYTES,
 };
-use std::hint::black_box;
+use std::arch::asm;
 use std::ops::Range;
 use std::time::{Duration, Instant};
+
+/// The value, from memory that the compiler must suppose to have been read and written. (`std::hint::black_box` is of Rust 1.66.)
+#[inline(always)]
+fn black_box<T>(mut value: T) -> T {
+    // SAFETY: no instruction is made of it.
+    unsafe { asm!("/* {} */", in(reg) &mut value, options(nostack, preserves_flags)) };
+    value
+}
 
 struct Random(u64);
 
@@ -75,7 +83,7 @@ fn verifying(tables: &Tables) -> Duration {
         &mut [0; RECORD_BYTES],
         |_| (),
         &mut [&mut |output| {
-            black_box(tables.page(17, 1, 1, Mark::Ended, output).unwrap());
+            let _ = black_box(tables.page(17, 1, 1, Mark::Ended, output).unwrap());
         }],
     );
     times[0]
@@ -213,7 +221,7 @@ fn resumed(random: &mut Random, tables: &Tables, lookup: &Lookup, verifying: Dur
             &mut [0; RECORD_BYTES],
             |_| (),
             &mut [&mut |output| {
-                black_box(tables.page(1024, 4, syndrome, after, output).unwrap());
+                let _ = black_box(tables.page(1024, 4, syndrome, after, output).unwrap());
             }],
         );
         println!(
@@ -307,7 +315,7 @@ fn repairs(random: &mut Random, tables: &Tables, reader: &Reader, verifying: Dur
             compare_repairs(tables, reader, range.clone(), field, limit, packet, Summing::Corrected);
         }
         let library = |packet: &[u8], output: &mut [u8]| {
-            black_box(tables.repair(CRC, range.clone(), field, limit, packet, output).unwrap());
+            let _ = black_box(tables.repair(CRC, range.clone(), field, limit, packet, output).unwrap());
         };
         let anew = |packet: &[u8], output: &mut [u8]| {
             black_box(reader.repair(range.clone(), field, limit, packet, output, Summing::Anew));
@@ -340,10 +348,10 @@ fn unchecked(random: &mut Random, tables: &Tables, reader: &Reader) {
             compare_repairs(tables, reader, NO_CHECKSUM, 0, limit, packet, Summing::Nothing);
         }
         let library = |packet: &[u8], output: &mut [u8]| {
-            black_box(tables.repair(CRC, NO_CHECKSUM, 0, limit, packet, output).unwrap());
+            let _ = black_box(tables.repair(CRC, NO_CHECKSUM, 0, limit, packet, output).unwrap());
         };
         let weighing = |packet: &[u8], output: &mut [u8]| {
-            black_box(tables.repair(CRC, 0..len - 2, len - 4, limit, packet, output).unwrap());
+            let _ = black_box(tables.repair(CRC, 0..len - 2, len - 4, limit, packet, output).unwrap());
         };
         let method = |packet: &[u8], output: &mut [u8]| {
             black_box(reader.repair(NO_CHECKSUM, 0, limit, packet, output, Summing::Nothing));

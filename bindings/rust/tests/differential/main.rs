@@ -11,6 +11,8 @@ mod inputs;
 
 mod blocks;
 mod checksum;
+mod conversions;
+mod long_lists;
 mod maker;
 mod pages;
 mod remainder;
