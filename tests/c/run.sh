@@ -1,6 +1,7 @@
 #!/bin/sh
 # Compiles include/rangqoda.h and smoke.c as C11 and as C++17 and the example as C11, with every warning an error, links them
 # with the archive and runs them: tests/c/run.sh [ARCHIVE]. The archive is target/staticlib/librangqoda.a unless another is named.
+# Where the compiler has checks of memory and of undefined behaviour, smoke.c is also run with these.
 set -eu
 root=$(cd "$(dirname "$0")/../.." && pwd)
 archive=$(realpath -m "${1:-$root/target/staticlib/librangqoda.a}")
@@ -16,6 +17,18 @@ strict="-Wall -Wextra -Werror -pedantic -Iinclude"
 # The header by itself: it includes what it needs.
 echo '#include "rangqoda.h"' | ${CC:-cc} -std=c11 $strict -x c -c - -o "$work/header-c.o"
 echo '#include "rangqoda.h"' | ${CXX:-c++} -std=c++17 $strict -x c++ -c - -o "$work/header-c++.o"
+
+# Each answer that is not read is warned of.
+warned() {
+    lines=$("$@" -Iinclude -c tests/c/unread.c -o "$work/unread.o" 2>&1 | grep -c 'warning: ignoring return value') || true
+    if [ "$lines" != "$(grep -c '^RANGQODA_ANSWER$' include/rangqoda.h)" ]; then
+        echo "$*: $lines answers that are not read are warned of" >&2
+        exit 1
+    fi
+}
+warned ${CC:-cc} -std=c11
+warned ${CXX:-c++} -std=c++17 -x c++
+echo 'answers that are not read: warned of'
 
 ${CC:-cc} -std=c11 $strict -O2 tests/c/smoke.c "$archive" -o "$work/smoke-c"
 ${CXX:-c++} -std=c++17 $strict -O2 -x c++ tests/c/smoke.c -x none "$archive" -o "$work/smoke-c++"
@@ -38,6 +51,12 @@ example "$work/three" 1 'publish nothing: no two bit errors explain it'
 example "$work/no such file" 2 ''
 echo 'C example: as it should be'
 
+checks='-fsanitize=address,undefined -fno-sanitize-recover=all'
+if echo 'int main(void) { return 0; }' | ${CC:-cc} $checks -x c - -o "$work/probe" 2>/dev/null && "$work/probe"; then
+    ${CC:-cc} -std=c11 $strict -O1 -g $checks tests/c/smoke.c "$archive" -o "$work/smoke-checked"
+    printf 'C11, checked: '
+    "$work/smoke-checked"
+fi
 printf 'C11: '
 "$work/smoke-c"
 printf 'C++17: '

@@ -54,6 +54,7 @@ pub fn seal(crc: Crc, packet: &mut [u8]) -> Result<(), Refusal> {
 /// ```
 /// assert_eq!(rangqoda::sum(&[0x00, 0x01, 0xF2, 0x03, 0xF4, 0xF5, 0xF6, 0xF7]), 0xDDF2);
 /// ```
+#[must_use]
 pub fn sum(bytes: &[u8]) -> u16 {
     // SAFETY: as in `remainder`.
     unsafe { ffi::rangqoda_sum(bytes.as_ptr(), bytes.len()) }
@@ -171,7 +172,7 @@ pub fn gather(rows: usize, columns: usize, input: &[u8], output: &mut [u8]) -> R
 ///
 /// A field of 0000h says that no checksum was made (RFC 768). A packet with such a field passes the second check without a sum, as it was
 /// received or as a pattern's flips make it. Of packets sent so the CRC alone strikes wrong patterns that leave the field zero: take N = 1
-/// for them.
+/// for them. Zeros in the place of lost bytes look the same: see [what a repair does not tell](crate#what-a-repair-does-not-tell).
 ///
 /// ```
 /// use rangqoda::{repair, Crc, Pattern, Tables, Verdict, FIVE, NO_CHECKSUM};
@@ -196,7 +197,8 @@ pub fn repair(
     packet: &[u8],
     output: &mut [u8],
 ) -> Result<Verdict, Refusal> {
-    let mut verdict = [0; VERDICT_BYTES];
+    // zeros would be Intact
+    let mut verdict = [0xFF; VERDICT_BYTES];
     // SAFETY: as in `remainder`.
     judged(unsafe {
         ffi::rangqoda_repair(
@@ -230,6 +232,7 @@ pub fn repair(
 ///
 /// assert!(hand_back(b"received", b"a copy..", &Verdict::None).is_empty());
 /// ```
+#[must_use]
 pub fn hand_back<'a>(received: &'a [u8], copy: &'a [u8], verdict: &Verdict) -> &'a [u8] {
     let bytes = verdict.to_bytes();
     // SAFETY: as in `remainder`.

@@ -13,7 +13,9 @@
 //! # Terms
 //!
 //! - A *generator* is a binary polynomial as a number: 2^i stands for x^i. Its degree n is the exponent of its leading
-//!   term. Accepted: odd numbers with n from 3 to 16.
+//!   term. Accepted: odd numbers with n from 3 to 16. Catalogues leave the leading term out. What they write as 1021h is
+//!   11021h here: 1021h itself is accepted too, as a generator of degree 12, and seals wrongly without a word.
+//!   [`Crc::of_width`] takes a width and a polynomial as catalogues write it.
 //! - A packet has L bits, 8 for each byte. They are counted from its end: *position* 0 is the lowest bit of its last byte,
 //!   and L - 1 the highest bit of its first. Accepted: n < L ≤ 4,096. The CRC is the last n bits.
 //! - The *remainder* or *syndrome* is what is left when the packet, as a binary polynomial with the *initial value* added at
@@ -30,12 +32,21 @@
 //!
 //! # Which CRC this is
 //!
-//! A [`Crc`] is a generator with an initial and a final value: the register starts at the one, and the other is added to it at
-//! the end (`init` and `xorout` of the catalogues and of the `crc` crate). The highest bit comes first, and nothing is
-//! reflected. [`catalogue`] has those with names, such as [`catalogue::CRC_16_XMODEM`],
-//! [`catalogue::CRC_16_IBM_3740`] ("CCITT-FALSE") and [`catalogue::CRC_16_GENIBUS`], which share the generator [`CCITT`].
-//! CRC-16/KERMIT ("CCITT-TRUE") and CRC-16/IBM-SDLC (X.25) have it too and are reflected: these calls are not for them.
-//! [`Crc::plain`] has both values 0: division by the generator alone.
+//! **Not CRC-32, and nothing reflected**: degrees 3 to 16, with the highest bit first. A [`Crc`] is a generator with an initial
+//! and a final value: the register starts at the one, and the other is added to it at the end (`init` and `xorout` of the
+//! catalogues and of the `crc` crate). [`Crc::plain`] has both values 0: division by the generator alone.
+//!
+//! [`catalogue`] has those with names, and the other names that they go by. Five share the generator [`CCITT`], and "CRC-CCITT"
+//! alone may mean any of them, or one that is reflected:
+//!
+//! - [`catalogue::CRC_16_XMODEM`] starts at 0 (ZMODEM, ACORN, LTE, V-41-MSB);
+//! - [`catalogue::CRC_16_IBM_3740`] starts at FFFFh (CCITT-FALSE, AUTOSAR);
+//! - [`catalogue::CRC_16_SPI_FUJITSU`] starts at 1D0Fh (AUG-CCITT);
+//! - [`catalogue::CRC_16_GENIBUS`] starts at FFFFh, and all bits are inverted at the end (EPC, I-CODE, DARC);
+//! - [`catalogue::CRC_16_GSM`] starts at 0, and all bits are inverted at the end.
+//!
+//! CRC-16/KERMIT ("CCITT-TRUE") and CRC-16/IBM-SDLC (X.25) have that generator too and are reflected, and so are CRC-16/ARC, which
+//! "CRC-16" alone mostly means, and CRC-16/MODBUS: these calls are not for them.
 //!
 //! Make sure of the CRC that sealed the packets. With the right generator and a wrong value all intact packets of one length
 //! leave the same remainder, and where a pattern explains it up to all of them may be repaired, to other data too: of packets
@@ -58,6 +69,11 @@
 //! often. The example `trials` counts all this. So choose the least N that the channel needs, publish it beside the number
 //! of repairs, and hold these for doubtful where many verdicts are [`Verdict::None`].
 //!
+//! *Drop-outs of zeros* are worse still. Where a recording puts zeros in the place of lost bytes, the field may be among them, and a
+//! field of zero asks for no sum: such packets are repaired falsely far more often than noise. A packet of zeros alone is even
+//! [`Verdict::Intact`] by a CRC whose values are 0, such as CRC-16/XMODEM. So prefer a CRC with an initial value, leave packets of
+//! zeros out before they come to a repair, and where the sender always stamps, hold a repair that ends in a field of zero for doubtful.
+//!
 //! # How long it takes
 //!
 //! Each page and each repair verifies both tables, 0.05 ms for degree 16. Beyond that a repair takes time as L^(N-1): with
@@ -69,6 +85,41 @@
 //! ones, or the other way round, the time is that of N - 1 (at N = 1, of verifying the tables); if not, the list is
 //! about twice as long. A call cannot be interrupted, and small pages do not bound its time: a page searches until its
 //! next record or the end of the list.
+//!
+//! Of an intact packet a repair spends nearly all its time on the tables. [`remainder`] and [`sum`] need none, and take less than a
+//! microsecond. So take them first, and repair only what is damaged: the answer is the same, and a stream with damage in one packet of
+//! twenty goes some 15 times as fast.
+//!
+//! ```
+//! use rangqoda::{catalogue::CRC_16_IBM_3740 as CRC, make, remainder, sum, Refusal, Tables, Verdict};
+//!
+//! /// The verdict on a packet with the checksum of bytes 0 to 61 at byte 60.
+//! fn verdict(tables: &Tables, packet: &[u8; 64], copy: &mut [u8; 64]) -> Result<Verdict, Refusal> {
+//!     if remainder(CRC, packet)? == 0 && (packet[60..62] == [0, 0] || sum(&packet[..62]) == 0xFFFF) {
+//!         return Ok(Verdict::Intact);
+//!     }
+//!     tables.repair(CRC, 0..62, 60, 2, packet, copy)
+//! }
+//!
+//! let tables = Tables::new(CRC.generator)?;
+//! let (mut packet, mut copy, mut seed) = ([0; 64], [0; 64], 7);
+//! for number in 0..100 {
+//!     seed = make(CRC, seed, 0..62, 60, &mut packet)?;
+//!     if number % 20 == 0 {
+//!         packet[number / 2] ^= 0x10;
+//!     }
+//!     let verdict = verdict(&tables, &packet, &mut copy)?;
+//!     assert_eq!(verdict, tables.repair(CRC, 0..62, 60, 2, &packet, &mut copy)?);
+//!     assert_eq!(verdict == Verdict::Intact, number % 20 != 0);
+//! }
+//! # Ok::<(), rangqoda::Refusal>(())
+//! ```
+//!
+//! # The archive
+//!
+//! `rt staticlib rangqoda` makes the archive that this crate links, in `target/staticlib`. It proves everything anew each time,
+//! also where nothing changed. So make it once, keep a copy in a folder of its own, and name that folder by the variable
+//! `RANGQODA_LIB_DIR` when this crate is built.
 //!
 //! # Example
 //!
@@ -108,3 +159,6 @@ pub use crc::{Crc, CCITT, FIVE};
 pub use pattern::{Mark, Pattern, Verdict, MARK_BYTES, MOST_POSITIONS, RECORD_BYTES, VERDICT_BYTES};
 pub use refusal::Refusal;
 pub use tables::{build_tables, page, Page, Patterns, TableSlices, Tables, NO_POSITION};
+
+/// The version of this crate, which is that of the header and of the changes for callers: see `CHANGELOG.md`.
+pub const VERSION: &str = env!("CARGO_PKG_VERSION");

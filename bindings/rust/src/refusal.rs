@@ -56,6 +56,7 @@ impl Refusal {
     ];
 
     /// The number of the condition, 1 to 13.
+    #[must_use]
     pub const fn number(self) -> u32 {
         self as u32
     }
