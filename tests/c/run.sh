@@ -18,11 +18,11 @@ strict="-Wall -Wextra -Werror -pedantic -Iinclude"
 echo '#include "rangqoda.h"' | ${CC:-cc} -std=c11 $strict -x c -c - -o "$work/header-c.o"
 echo '#include "rangqoda.h"' | ${CXX:-c++} -std=c++17 $strict -x c++ -c - -o "$work/header-c++.o"
 
-# Each answer that is not read is warned of.
+# An answer that is not read is warned of, for each function but rangqoda_sum.
 warned() {
     lines=$("$@" -Iinclude -c tests/c/unread.c -o "$work/unread.o" 2>&1 | grep -c 'warning: ignoring return value') || true
-    if [ "$lines" != "$(grep -c '^RANGQODA_ANSWER$' include/rangqoda.h)" ]; then
-        echo "$*: $lines answers that are not read are warned of" >&2
+    if [ "$lines" != "$(grep -c '^uint32_t rangqoda_' include/rangqoda.h)" ]; then
+        echo "$*: of the answers that are not read $lines are warned of" >&2
         exit 1
     fi
 }
