@@ -237,7 +237,7 @@
  * Remainder and sum need none, and take less than a microsecond. So take them
  * first, and repair only what is damaged: the answer is the same, and a stream
  * with damage in one packet of twenty goes some 15 times as fast. With a range
- * from 0 to end:
+ * from 0 to end, and a field in it (without a checksum, by the remainder alone):
  *
  *   uint64_t left;
  *   if (rangqoda_remainder(CRC, packet, len, &left) == 0 && left == 0 &&
@@ -584,7 +584,8 @@ uint32_t rangqoda_tables(uint64_t generator,
  *   }
  *
  * with tables and outputs that may be others in each call. A refused call
- * leaves the mark, and the next call goes on from it.
+ * leaves the mark, and the next call goes on from it. Behind the loop the list
+ * is whole where the mark is ended, and only there: after a refusal it is not.
  */
 RANGQODA_ANSWER
 uint32_t rangqoda_page(uint64_t generator, size_t length, size_t limit,

@@ -6,7 +6,7 @@ pub const FIVE: u64 = 53;
 /// The generator x^16 + x^12 + x^5 + 1.
 pub const CCITT: u64 = 0x11021;
 
-/// The numbers that define a CRC. It refuses nothing: the calls judge them.
+/// The numbers that define a CRC. Any may stand here: the calls judge them.
 ///
 /// ```
 /// use rangqoda::{catalogue::CRC_16_XMODEM, Crc, CCITT};
