@@ -234,10 +234,11 @@
  * searches until its next record or the end of the list.
  *
  * Of an intact packet a repair spends nearly all its time on the tables.
- * Remainder and sum need none, and take less than a microsecond. So take them
- * first, and repair only what is damaged: the answer is the same, and a stream
- * with damage in one packet of twenty goes some 15 times as fast. With a range
- * from 0 to end, and a field in it (without a checksum, by the remainder alone):
+ * Remainder and sum need none, and take 0.2 microseconds for 64 bytes. So take
+ * them first, and repair only what is damaged: the answer is the same, and a
+ * stream with damage in one packet of twenty goes some 15 times as fast. With a
+ * range from 0 to end and a field in it (or without a checksum, by the remainder
+ * alone):
  *
  *   uint64_t left;
  *   if (rangqoda_remainder(CRC, packet, len, &left) == 0 && left == 0 &&

@@ -86,9 +86,9 @@
 //! about twice as long. A call cannot be interrupted, and small pages do not bound its time: a page searches until its
 //! next record or the end of the list.
 //!
-//! Of an intact packet a repair spends nearly all its time on the tables. [`remainder`] and [`sum`] need none, and take less than a
-//! microsecond. So take them first, and repair only what is damaged: the answer is the same, and a stream with damage in one packet of
-//! twenty goes some 15 times as fast.
+//! Of an intact packet a repair spends nearly all its time on the tables. [`remainder`] and [`sum`] need none, and take 0.2
+//! microseconds for 64 bytes. So take them first, and repair only what is damaged: the answer is the same, and a stream with damage in
+//! one packet of twenty goes some 15 times as fast.
 //!
 //! ```
 //! use rangqoda::{catalogue::CRC_16_IBM_3740 as CRC, make, remainder, sum, Refusal, Tables, Verdict};
