@@ -32,23 +32,35 @@ echo 'answers that are not read: warned of'
 
 ${CC:-cc} -std=c11 $strict -O2 tests/c/smoke.c "$archive" -o "$work/smoke-c"
 ${CXX:-c++} -std=c++17 $strict -O2 -x c++ tests/c/smoke.c -x none "$archive" -o "$work/smoke-c++"
-# The example repairs a packet in which two bits flipped, and publishes nothing of one in which three did.
+# The example: a packet as it was sent, one in which two bits flipped, one in which three did, one without a checksum that two sets of
+# flips explain, files that are too short and too long, none, and no name of one. Held to are status, output and complaint.
 ${CC:-cc} -std=c11 $strict -O2 bindings/c/repair.c "$archive" -o "$work/repair"
-sent='63 68 20 37 20 62 61 64 67 65 20 32 73 02 0C 82'
-printf 'ch 3 badg%% 2s\002\014\202' >"$work/two"
-printf 'ch 3 badg%% 2s\002\015\202' >"$work/three"
 example() {
     status=0
-    "$work/repair" "$1" >"$work/said" 2>"$work/complaint" || status=$?
-    if [ "$status" != "$2" ] || [ "$(tail -n 1 "$work/said")" != "$3" ]; then
-        echo "the example returned $status for $1, and said:" >&2
-        cat "$work/said" "$work/complaint" >&2
+    said=$("$work/repair" ${1:+"$work/$1"} 2>"$work/complaint") || status=$?
+    if [ "$status" != "$2" ] || [ "$said" != "$3" ] || [ "$(cat "$work/complaint")" != "$4" ]; then
+        printf 'the example returned %s for "%s", and said:\n%s\n' "$status" "$1" "$said" >&2
+        cat "$work/complaint" >&2
         exit 1
     fi
 }
-example "$work/two" 0 "$sent"
-example "$work/three" 1 'publish nothing: no two bit errors explain it'
-example "$work/no such file" 2 ''
+sent='63 68 20 37 20 62 61 64 67 65 20 32 73 02 0C 82'
+printf 'ch 7 badge 2s\002\014\202' >"$work/sent"
+printf 'ch 3 badg%% 2s\002\014\202' >"$work/two"
+printf 'ch 3 badg%% 2s\002\015\202' >"$work/three"
+printf 'ch 7 badga 2\000\000q\313' >"$work/several"
+printf 'ch' >"$work/short"
+printf '%513s' >"$work/long"
+example sent 0 "publish the packet as it was received:
+$sent" ''
+example two 0 "publish the repaired packet:
+$sent" ''
+example three 1 'publish nothing: no two bit errors explain it' ''
+example several 1 'publish nothing: several repairs are possible' ''
+example short 2 '' 'refused 2'
+example long 2 '' 'refused 2'
+example none 2 '' 'repair: cannot read the file'
+example '' 2 '' 'usage: repair FILE'
 echo 'C example: as it should be'
 
 checks='-fsanitize=address,undefined -fno-sanitize-recover=all'
