@@ -12,12 +12,20 @@
  * calls or shared: calls on different memory may run at the same time. A page
  * and a repair take less than 18 KiB of stack, the other calls less than 1 KiB.
  *
+ * "rt staticlib rangqoda" makes the archive, target/staticlib/librangqoda.a. It
+ * proves everything anew each time, also where nothing changed: make it once,
+ * and keep a copy beside this header to link with.
+ *
  *
  * Terms
  *
  *   generator  A binary polynomial as a number: 2^i stands for x^i. Its degree n
  *              is the exponent of its leading term. Accepted: odd numbers with
- *              n from 3 to 16.
+ *              n from 3 to 16. Catalogues leave the leading term out: what they
+ *              write as 1021h is 11021h here. 1021h itself is accepted too, as a
+ *              generator of degree 12, and seals wrongly without a word.
+ *              RANGQODA_OF_WIDTH takes a width and a polynomial as catalogues
+ *              write it.
  *   length     L, the bits of a packet, 8 for each byte. Accepted: greater than
  *              n, and at most 4096. The page call is told L itself, and takes
  *              any number of bits.
@@ -66,6 +74,9 @@
  * pointer is good for the number of elements passed with it: whatever the
  * numbers and lengths are, the call judges them, and it ends.
  *
+ * Read every answer; compilers that can do so warn where one is not read. What
+ * a refused call was to write still holds what it held before.
+ *
  *    1  an even generator, or one whose degree is not 3 to 16
  *    2  L <= n, or L > 4096
  *    3  limit 0 or above 4
@@ -98,11 +109,11 @@
  *
  * Which CRC this is
  *
- * The highest bit comes first, and nothing is reflected. The register starts at
- * the initial value, and the final value is added to it at the end ("init" and
- * "xorout" of the catalogues): the remainder of a message and n zero bits is
- * its CRC, and that of a message and its CRC is 0. With 0 and 0 it is division
- * by the generator alone.
+ * Not CRC-32, and nothing reflected: degrees 3 to 16, with the highest bit
+ * first. The register starts at the initial value, and the final value is added
+ * to it at the end ("init" and "xorout" of the catalogues): the remainder of a
+ * message and n zero bits is its CRC, and that of a message and its CRC is 0.
+ * With 0 and 0 it is division by the generator alone.
  *
  * CRCs of the catalogues have names below. Such a name stands for three
  * arguments, generator, initial and final:
@@ -115,10 +126,27 @@
  * generator alone, for the calls that take no values: tables, patterns and
  * pages belong to the generator.
  *
- * CRC-16/XMODEM, CRC-16/IBM-3740 ("CCITT-FALSE"), CRC-16/GENIBUS and
- * CRC-16/SPI-FUJITSU share the generator RANGQODA_CCITT. CRC-16/KERMIT
- * ("CCITT-TRUE") and CRC-16/IBM-SDLC (X.25) have it too, but are reflected:
- * these calls are not for them.
+ * A CRC without a name is written by its width and its polynomial as catalogues
+ * have it, without its top bit. This is a third way to write the same:
+ *
+ *   rangqoda_seal(RANGQODA_OF_WIDTH(16, 0x1021, 0xFFFF, 0), packet, packet_len)
+ *
+ * With a width outside 3 to 16, or a polynomial that is even or does not fit it,
+ * the call is refused by 1, and with a value that does not fit it by 11.
+ *
+ * Five names share the generator RANGQODA_CCITT, and "CRC-CCITT" alone may mean
+ * any of them, or one that is reflected:
+ *
+ *   CRC-16/XMODEM       starts at 0 (ZMODEM, ACORN, LTE, V-41-MSB)
+ *   CRC-16/IBM-3740     starts at FFFFh (CCITT-FALSE, AUTOSAR)
+ *   CRC-16/SPI-FUJITSU  starts at 1D0Fh (AUG-CCITT)
+ *   CRC-16/GENIBUS      starts at FFFFh, and all bits are inverted at the end
+ *                       (EPC, I-CODE, DARC)
+ *   CRC-16/GSM          starts at 0, and all bits are inverted at the end
+ *
+ * CRC-16/KERMIT ("CCITT-TRUE") and CRC-16/IBM-SDLC (X.25) have that generator
+ * too and are reflected, and so are CRC-16/ARC, which "CRC-16" alone mostly
+ * means, and CRC-16/MODBUS: these calls are not for them.
  *
  * Make sure of the CRC that sealed the packets. With the right generator and a
  * wrong value all intact packets of one length leave the same remainder, and
@@ -172,6 +200,14 @@
  * of repairs, and hold these for doubtful where many verdicts are
  * RANGQODA_NONE.
  *
+ * Drop-outs of zeros are worse than noise. Where a recording puts zeros in the
+ * place of lost bytes, the field may be among them, and a field of zero asks for
+ * no sum: such packets are repaired falsely far more often. A packet of zeros
+ * alone is even RANGQODA_INTACT by a CRC whose values are 0, such as
+ * CRC-16/XMODEM. So prefer a CRC with an initial value, leave packets of zeros
+ * out before they come to a repair, and where the sender always stamps, hold a
+ * repair that ends in a field of zero for doubtful.
+ *
  *
  * How long it takes
  *
@@ -196,6 +232,22 @@
  *
  * A call cannot be interrupted. Small pages do not bound its time: a page
  * searches until its next record or the end of the list.
+ *
+ * Of an intact packet a repair spends nearly all its time on the tables.
+ * Remainder and sum need none, and take 0.2 microseconds for 64 bytes. So take
+ * them first, and repair only what is damaged: the answer is the same, and a
+ * stream with damage in one packet of twenty goes some 15 times as fast. With a
+ * range from 0 to end and a field in it (or without a checksum, by the remainder
+ * alone):
+ *
+ *   uint64_t left;
+ *   if (rangqoda_remainder(CRC, packet, len, &left) == 0 && left == 0 &&
+ *       ((packet[field] == 0 && packet[field + 1] == 0) ||
+ *        rangqoda_sum(packet, end) == 0xFFFF)) {
+ *       ... intact ...
+ *   } else if (rangqoda_repair(CRC, 0, end, field, ...) == 0) {
+ *       ... the verdict ...
+ *   }
  *
  *
  * Encodings: every number of more than one byte has its high byte first
@@ -233,6 +285,18 @@
 
 #ifdef __cplusplus
 extern "C" {
+#endif
+
+/* The version, which moves with CHANGELOG.md. */
+#define RANGQODA_VERSION_MAJOR 0
+#define RANGQODA_VERSION_MINOR 9
+#define RANGQODA_VERSION_PATCH 0
+
+/* Before a declaration: the compiler warns where the answer is not read. */
+#if defined(__GNUC__)
+#define RANGQODA_ANSWER __attribute__((warn_unused_result))
+#else
+#define RANGQODA_ANSWER
 #endif
 
 /* Generators with names. */
@@ -294,6 +358,42 @@ extern "C" {
 #define RANGQODA_CRC_16_UMTS           0x18005u, 0x0000u, 0x0000u
 #define RANGQODA_CRC_16_XMODEM         0x11021u, 0x0000u, 0x0000u
 
+/* Other names that the catalogues have for some of them. */
+#define RANGQODA_CRC_5_EPC             RANGQODA_CRC_5_EPC_C1G2
+#define RANGQODA_CRC_7                 RANGQODA_CRC_7_MMC
+#define RANGQODA_CRC_8                 RANGQODA_CRC_8_SMBUS
+#define RANGQODA_CRC_8_ITU             RANGQODA_CRC_8_I_432_1
+#define RANGQODA_CRC_10                RANGQODA_CRC_10_ATM
+#define RANGQODA_CRC_10_I_610          RANGQODA_CRC_10_ATM
+#define RANGQODA_CRC_11                RANGQODA_CRC_11_FLEXRAY
+#define RANGQODA_X_CRC_12              RANGQODA_CRC_12_DECT
+#define RANGQODA_CRC_15                RANGQODA_CRC_15_CAN
+#define RANGQODA_R_CRC_16              RANGQODA_CRC_16_DECT_R
+#define RANGQODA_X_CRC_16              RANGQODA_CRC_16_DECT_X
+#define RANGQODA_CRC_16_DARC           RANGQODA_CRC_16_GENIBUS
+#define RANGQODA_CRC_16_EPC            RANGQODA_CRC_16_GENIBUS
+#define RANGQODA_CRC_16_EPC_C1G2       RANGQODA_CRC_16_GENIBUS
+#define RANGQODA_CRC_16_I_CODE         RANGQODA_CRC_16_GENIBUS
+#define RANGQODA_CRC_16_AUTOSAR        RANGQODA_CRC_16_IBM_3740
+#define RANGQODA_CRC_16_CCITT_FALSE    RANGQODA_CRC_16_IBM_3740
+#define RANGQODA_CRC_16_IEC_61158_2    RANGQODA_CRC_16_PROFIBUS
+#define RANGQODA_CRC_16_AUG_CCITT      RANGQODA_CRC_16_SPI_FUJITSU
+#define RANGQODA_CRC_16_BUYPASS        RANGQODA_CRC_16_UMTS
+#define RANGQODA_CRC_16_VERIFONE       RANGQODA_CRC_16_UMTS
+#define RANGQODA_CRC_16_ACORN          RANGQODA_CRC_16_XMODEM
+#define RANGQODA_CRC_16_LTE            RANGQODA_CRC_16_XMODEM
+#define RANGQODA_CRC_16_V_41_MSB       RANGQODA_CRC_16_XMODEM
+#define RANGQODA_ZMODEM                RANGQODA_CRC_16_XMODEM
+
+/* A CRC by its width and its polynomial without the top bit. Its generator is 0,
+   which is refused, where the width or the polynomial is unfit. Like a name it
+   stands for three arguments. */
+#define RANGQODA_OF_WIDTH(width, polynomial, initial, final)                   \
+    ((width) >= 3 && (width) <= 16 && (uint64_t)(polynomial) >> (width) == 0   \
+         ? (uint64_t)1 << (width) | (uint64_t)(polynomial)                     \
+         : (uint64_t)0),                                                       \
+    (initial), (final)
+
 /* The range of a packet that carries no checksum: start, end and a number for the
    field. Like the name of a CRC it is no expression, and stands for its
    arguments. */
@@ -343,6 +443,7 @@ extern "C" {
  *
  * Refused by 1, 2, 11. Writes *remainder, below 2^n.
  */
+RANGQODA_ANSWER
 uint32_t rangqoda_remainder(uint64_t generator,
                             uint64_t initial, uint64_t final,
                             const uint8_t *packet, size_t packet_len,
@@ -354,6 +455,7 @@ uint32_t rangqoda_remainder(uint64_t generator,
  * Refused by 1, 2, 11. Changes no other bit of the packet, and none at all
  * where the remainder is 0 already.
  */
+RANGQODA_ANSWER
 uint32_t rangqoda_seal(uint64_t generator, uint64_t initial, uint64_t final,
                        uint8_t *packet, size_t packet_len);
 
@@ -374,6 +476,7 @@ uint16_t rangqoda_sum(const uint8_t *bytes, size_t len);
  * Refused by 1, 2, 9, 10. Changes no byte but the two of the field. An accepted
  * range with start = end has no field, and is refused by 10.
  */
+RANGQODA_ANSWER
 uint32_t rangqoda_stamp(uint64_t generator,
                         size_t start, size_t end, size_t field,
                         uint8_t *packet, size_t packet_len);
@@ -402,6 +505,7 @@ uint32_t rangqoda_stamp(uint64_t generator,
  * other are a poor choice for trials: most give the same first byte as their
  * neighbours, and later bytes at fixed distances from theirs, give or take 1.
  */
+RANGQODA_ANSWER
 uint32_t rangqoda_make(uint64_t generator, uint64_t initial, uint64_t final,
                        uint32_t seed, size_t start, size_t end, size_t field,
                        uint8_t *packet, size_t packet_len, uint32_t *state);
@@ -420,6 +524,7 @@ uint32_t rangqoda_make(uint64_t generator, uint64_t initial, uint64_t final,
  * Refused by 12, 13. Otherwise writes all bytes of output, which must not overlap
  * the input.
  */
+RANGQODA_ANSWER
 uint32_t rangqoda_scatter(size_t rows, size_t columns,
                           const uint8_t *input, size_t input_len,
                           uint8_t *output, size_t output_len);
@@ -432,6 +537,7 @@ uint32_t rangqoda_scatter(size_t rows, size_t columns,
  * Refused by 12, 13. Otherwise writes all bytes of output, which must not overlap
  * the input.
  */
+RANGQODA_ANSWER
 uint32_t rangqoda_gather(size_t rows, size_t columns,
                          const uint8_t *input, size_t input_len,
                          uint8_t *output, size_t output_len);
@@ -446,6 +552,7 @@ uint32_t rangqoda_gather(size_t rows, size_t columns,
  * Refused by 1, 5. Writes every entry of both tables, and into *period the
  * smallest positive c such that x^c leaves 1.
  */
+RANGQODA_ANSWER
 uint32_t rangqoda_tables(uint64_t generator,
                          uint16_t *step, size_t step_len,
                          uint16_t *first, size_t first_len,
@@ -478,8 +585,10 @@ uint32_t rangqoda_tables(uint64_t generator,
  *   }
  *
  * with tables and outputs that may be others in each call. A refused call
- * leaves the mark, and the next call goes on from it.
+ * leaves the mark, and the next call goes on from it. Behind the loop the list
+ * is whole where the mark is ended, and only there: after a refusal it is not.
  */
+RANGQODA_ANSWER
 uint32_t rangqoda_page(uint64_t generator, size_t length, size_t limit,
                        uint64_t syndrome,
                        const uint16_t *step, size_t step_len,
@@ -513,6 +622,10 @@ uint32_t rangqoda_page(uint64_t generator, size_t length, size_t limit,
  * Refused by 1, 2, 11, 3, 5, 6, 8, 9, 10. Otherwise writes all bytes of verdict.
  * output changes for RANGQODA_REPAIRED only.
  *
+ * A verdict of zeros is RANGQODA_INTACT. So fill it with FFh first, as in
+ * memset(verdict, 0xFF, sizeof verdict): if then a refusal is overlooked,
+ * rangqoda_publish says that there is nothing to publish.
+ *
  * A packet without a checksum is repaired by
  *
  *   rangqoda_repair(RANGQODA_CRC_16_XMODEM, RANGQODA_NO_CHECKSUM, limit, ...)
@@ -520,6 +633,7 @@ uint32_t rangqoda_page(uint64_t generator, size_t length, size_t limit,
  * Take care that a range that was computed is not empty by mistake: it is not
  * refused, and neither is any field with it.
  */
+RANGQODA_ANSWER
 uint32_t rangqoda_repair(uint64_t generator, uint64_t initial, uint64_t final,
                          size_t start, size_t end, size_t field, size_t limit,
                          const uint16_t *step, size_t step_len,
@@ -540,6 +654,7 @@ uint32_t rangqoda_repair(uint64_t generator, uint64_t initial, uint64_t final,
  * Bytes are no verdict when there are not RANGQODA_VERDICT_BYTES of them or
  * when the first is above RANGQODA_NONE; those behind the first are not read.
  */
+RANGQODA_ANSWER
 uint32_t rangqoda_publish(const uint8_t *verdict, size_t verdict_len);
 
 #ifdef __cplusplus

@@ -2,16 +2,14 @@
 """Writes tests/list.txt: inputs of the listing program, and what it prints for each, by the number of lines, POSIX's cksum of
 the whole output, and the last line. tests/list.sh holds the program to them.
 
-The lists are found by trying every combination of positions, with the remainders of single powers by long division. Nothing
-here is taken from the library. Run it from anywhere:
+The lists are those of reference.py. Nothing here is taken from the library. Run it from anywhere:
 
     python3 tests/list_vectors.py
 """
-from itertools import combinations
 from pathlib import Path
 import re
 
-from reference import degree_of, divide, unfit_generator, unfit_length
+from reference import MOST_POSITIONS, degree_of, listed, unfit_generator, unfit_length, unfit_limit
 
 TARGET = Path(__file__).resolve().parent / "list.txt"
 
@@ -21,7 +19,7 @@ INPUTS = [
     "053 08 2 00000003\n",
     "000000053 000000008 000000002 000000003\n",
     # each count of positions, and lists of one pattern at most
-    *(f"53 16 {limit} {syndrome}\n" for limit in (1, 2, 3, 4) for syndrome in (0, 1, 30)),
+    *(f"53 16 {limit} {syndrome}\n" for limit in range(1, MOST_POSITIONS + 1) for syndrome in (0, 1, 30)),
     "9 4 4 0\n",
     # many pages, of two, three and four positions
     "21 4096 2 9\n",
@@ -38,13 +36,13 @@ INPUTS = [
     # each refusal at its edges, an empty list among them, and the order of the refusals
     *(f"{g} 8 2 3\n" for g in (0, 1, 3, 5, 7, 8, 9, 52)),
     *(f"53 {bits} 1 3\n" for bits in (0, 5, 6, 4096, 4097, 999999999)),
-    *(f"53 8 {limit} 3\n" for limit in (0, 1, 4, 5, 257, 999999999)),
+    *(f"53 8 {limit} 3\n" for limit in (0, 1, MOST_POSITIONS, MOST_POSITIONS + 1, 257, 999999999)),
     *(f"53 8 2 {syndrome}\n" for syndrome in (31, 32, 999999999)),
     "8 0 0 99\n",
-    "32769 15 5 40000\n",
+    f"32769 15 {MOST_POSITIONS + 1} 40000\n",
     "53 0 0 99\n",
     "53 8 0 99\n",
-    "53 8 5 32\n",
+    f"53 8 {MOST_POSITIONS + 1} 32\n",
     # bad lines
     "",
     "\n",
@@ -74,17 +72,6 @@ INPUTS = [
 LINE = re.compile(r"([0-9]{1,9}) ([0-9]{1,9}) ([0-9]{1,9}) ([0-9]{1,9})\n\Z")
 
 
-def patterns(generator, bits, limit, syndrome):
-    powers = [divide(1 << p, generator) for p in range(bits)]
-    for count in range(limit + 1):
-        for positions in combinations(range(bits), count):
-            left = syndrome
-            for p in positions:
-                left ^= powers[p]
-            if left == 0:
-                yield positions
-
-
 def printed(text):
     match = LINE.match(text)
     if not match:
@@ -94,11 +81,11 @@ def printed(text):
         return "refused 1\n"
     if unfit_length(generator, bits):
         return "refused 2\n"
-    if not 1 <= limit <= 4:
+    if unfit_limit(limit):
         return "refused 3\n"
     if syndrome >= 2 ** degree_of(generator):
         return "refused 4\n"
-    lines = [" ".join(map(str, (len(p), *p))) for p in patterns(generator, bits, limit, syndrome)]
+    lines = [" ".join(map(str, (len(p), *p))) for p in listed(generator, bits, limit, syndrome)]
     return "".join(f"{line}\n" for line in [*lines, f"end {len(lines)}"])
 
 

@@ -1,45 +1,32 @@
 #!/usr/bin/env python3
 """Writes the vectors of the program pages_test: crates/pages_test/stdin, and the stdout that it is held to.
 
-The lists are found by brute force: every combination of positions, with the remainder of its polynomial by long division
-on Python's integers (above 64 bits the remainders of the single powers are added up, since there are millions of sets).
-Pages and refusals follow docs/RULES.md. Nothing here is taken from the library. Run it from anywhere:
+The lists are those of reference.py; pages and refusals follow docs/RULES.md. Nothing here is taken from the library. Run it from
+anywhere:
 
     python3 tests/pages_vectors.py
 """
-from functools import lru_cache
 from itertools import combinations, product
 from pathlib import Path
 
-from reference import CCITT, FIVE, degree_of, divide, filled, fnv, unfit_generator, unfit_length
+from reference import CCITT, FIVE, MOST_POSITIONS, RECORD_BYTES, degree_of, divide, filled, fnv, in_order, listed
+from reference import unfit_generator, unfit_length, unfit_limit
 
 TARGET = Path(__file__).resolve().parent.parent / "crates" / "pages_test"
 
 START, ENDED = "start", "ended"
+KINDS = {START: MOST_POSITIONS + 1, ENDED: MOST_POSITIONS + 2}  # beside the counts of positions
 LONG = 10**6  # more calls than any list here has records
-
-
-@lru_cache(maxsize=1)
-def lists(generator, bits, limit):
-    """Every pattern by its syndrome, in the order: fewer positions first, then the lower smallest position, and so on."""
-    powers = [divide(1 << p, generator) for p in range(bits)]
-    found = {}
-    for count in range(limit + 1):
-        for positions in combinations(range(bits), count):
-            if bits <= 64:
-                syndrome = divide(sum(1 << p for p in positions), generator)
-            else:
-                syndrome = 0
-                for p in positions:
-                    syndrome ^= powers[p]
-            found.setdefault(syndrome, []).append(positions)
-    return found
 
 
 def follows(mark, pattern):
     if mark in (START, ENDED):
         return mark == START
-    return (len(mark), mark) < (len(pattern), pattern)
+    return in_order(mark) < in_order(pattern)
+
+
+def listed_after(generator, bits, limit, syndrome, mark):
+    return [p for p in listed(generator, bits, limit, syndrome) if follows(mark, p)]
 
 
 def record(pattern):
@@ -67,7 +54,7 @@ class Group:
             return 1
         if unfit_length(generator, bits):
             return 2
-        if not 1 <= limit <= 4:
+        if unfit_limit(limit):
             return 3
         if syndrome >= 2**degree:
             return 4
@@ -78,13 +65,13 @@ class Group:
         if isinstance(mark, tuple):
             if len(mark) > limit or any(p >= bits for p in mark) or any(a >= b for a, b in zip(mark, mark[1:])):
                 return 7
-        return 8 if room < 9 else 0
+        return 8 if room < RECORD_BYTES else 0
 
     def add(self, bits, limit, syndrome, span=1, mark=START, room=64, sizes=1, calls=LONG, generator=None):
         """A case: the line that the program reads, and the one it prints."""
         generator = self.generator if generator is None else generator
-        kind = {START: 5, ENDED: 6}.get(mark, len(mark))
-        positions = [0] * 4 if isinstance(mark, str) else [*mark, 0, 0, 0, 0][:4]
+        kind = KINDS.get(mark, len(mark))
+        positions = [0] * MOST_POSITIONS if isinstance(mark, str) else [*mark, *[0] * (MOST_POSITIONS - len(mark))]
         given = [x for y in (generator, bits, limit, syndrome) for x in divmod(y, 2**32)]
         line = " ".join(map(str, [*given, span, kind, *positions, room, sizes, calls]))
         used = beyond = 2166136261
@@ -99,7 +86,7 @@ class Group:
                 if number:
                     refusals += number
                 else:
-                    rest = [p for p in lists(generator, bits, limit).get(s, []) if follows(reached, p)]
+                    rest = listed_after(generator, bits, limit, s, reached)
                     fit = 0
                     while fit < len(rest) and len(page) + len(record(rest[fit])) <= size:
                         page += record(rest[fit])
@@ -115,10 +102,6 @@ class Group:
         self.cases.append((line, f"{used} {beyond} {records} {made} {refusals} {ended} {shown}"))
 
 
-def listed(generator, bits, limit, syndrome, after=START):
-    return [p for p in lists(generator, bits, limit).get(syndrome, []) if follows(after, p)]
-
-
 groups = []
 
 
@@ -129,7 +112,7 @@ def worked_by_hand():
     assert listed(FIVE, 7, 2, 3) == [(0, 1)] and listed(FIVE, 8, 2, 3) == [(0, 1), (3, 7)]
     assert listed(FIVE, 15, 2, 0) == [()] and listed(FIVE, 16, 2, 0) == [(), (0, 15)]
     assert listed(FIVE, 9, 2, 30) == [(0, 6), (3, 8), (5, 7)]
-    assert listed(FIVE, 9, 2, 30, (1, 2)) == [(3, 8), (5, 7)]
+    assert listed_after(FIVE, 9, 2, 30, (1, 2)) == [(3, 8), (5, 7)]
     received = divide(0x7FFF05, FIVE)
     assert listed(FIVE, 24, 1, received) == [(8,), (23,)]
     Group(11).add(5, 1, 6)
@@ -144,7 +127,7 @@ def every_small_list():
     """All syndromes: five over every length up to 20, and generators of degree 3 to 8 with an odd and an even number of ones."""
     five = Group(FIVE)
     for bits in range(6, 21):
-        for limit in (1, 2, 3, 4):
+        for limit in range(1, MOST_POSITIONS + 1):
             five.add(bits, limit, 0, span=32)
     for generator in (9, 11, 13, 15, 19, 23, 31, 37, 47, 51, 67, 73, 99, 131, 137, 189, 285, 263, 257, 297):
         degree = degree_of(generator)
@@ -156,21 +139,23 @@ def every_small_list():
 def joined_pages():
     """Whole lists in pages of odd sizes, also of changing ones with refused calls among them, and parts of lists."""
     five = Group(FIVE)
-    for room in (9, 10, 11, 12, 13, 14, 17, 18, 19, 26, 27, 45, 64, 100, 255, 4096):
+    least = RECORD_BYTES
+    near = (*range(least, least + 6), 2 * least - 1, 2 * least, 2 * least + 1, 3 * least - 1, 3 * least, 5 * least)
+    for room in (*near, 64, 100, 255, 4096):
         five.add(17, 4, 0, span=32, room=room)
         five.add(20, 4, 30, room=room)
-    for room, sizes in ((8, 2), (7, 4), (0, 12), (9, 7), (5, 31)):
+    for room, sizes in ((least - 1, 2), (least - 2, 4), (0, least + 3), (least, 7), (5, 31)):
         five.add(18, 4, 7, span=3, room=room, sizes=sizes)
         five.add(18, 3, 0, room=room, sizes=sizes)
     for calls in range(0, 30):
-        five.add(14, 3, 0, room=9, calls=calls)
+        five.add(14, 3, 0, room=least, calls=calls)
         five.add(14, 3, 9, room=21, sizes=3, calls=calls)
 
 
 def every_mark():
     """A page after each pattern, listed or not, at both ends too."""
     five = Group(FIVE)
-    for bits, limit, syndrome, room in ((9, 2, 30, 64), (8, 4, 0, 19), (7, 3, 21, 9)):
+    for bits, limit, syndrome, room in ((9, 2, 30, 64), (8, 4, 0, 19), (7, 3, 21, RECORD_BYTES)):
         five.add(bits, limit, syndrome, mark=ENDED, room=room)
         for count in range(limit + 1):
             for mark in combinations(range(bits), count):
@@ -178,7 +163,7 @@ def every_mark():
     for mark in ((15, 16, 17, 19), (16, 17, 18, 19), (19,), (18, 19), ()):
         five.add(20, 4, 0, span=32, mark=mark)
     for mark in (START, ENDED, (), (0,), (7,), (15,), (14, 15)):
-        five.add(16, 2, 1, mark=mark, room=9)
+        five.add(16, 2, 1, mark=mark, room=RECORD_BYTES)
 
 
 def every_mark_for_every_syndrome():
@@ -186,9 +171,9 @@ def every_mark_for_every_syndrome():
     the former one list has even counts only, or odd ones; with the latter both."""
     for generator, bits in ((9, 7), (11, 7), (13, 6), (15, 6), (17, 6), (19, 6)):
         group = Group(generator)
-        for count in range(5):
+        for count in range(MOST_POSITIONS + 1):
             for mark in combinations(range(bits), count):
-                group.add(bits, 4, 0, span=2 ** degree_of(generator), mark=mark, calls=1)
+                group.add(bits, MOST_POSITIONS, 0, span=2 ** degree_of(generator), mark=mark, calls=1)
     for syndrome in range(2 ** degree_of(9)):
         assert {len(p) % 2 for p in listed(9, 7, 4, syndrome)} <= {syndrome.bit_count() % 2}
         assert {len(p) % 2 for p in listed(11, 7, 4, syndrome)} == {0, 1}
@@ -198,9 +183,9 @@ def long_packets():
     """The longest packets, and lists of which each last position is looked up in large tables."""
     five = Group(FIVE)
     five.add(4096, 1, 0, span=32, room=1000)
-    five.add(4096, 1, 26, room=9, calls=40)
-    five.add(4096, 1, 26, mark=(4094,), room=9)
-    five.add(4096, 1, 26, mark=(4095,), room=9)
+    five.add(4096, 1, 26, room=RECORD_BYTES, calls=40)
+    five.add(4096, 1, 26, mark=(4094,), room=RECORD_BYTES)
+    five.add(4096, 1, 26, mark=(4095,), room=RECORD_BYTES)
     ccitt = Group(CCITT)
     for syndrome in (0, 1, 3, 0x1021, 0x1189, 0x8000, 0xFFFF, 0x8001, 0x3331):
         ccitt.add(4096, 2, syndrome, room=4096)
@@ -220,10 +205,10 @@ def refused_in_order():
         for one, two, three, four, seven, eight in product((False, True), repeat=6):
             group.add(
                 5 if two else 8,
-                5 if three else 2,
+                MOST_POSITIONS + 1 if three else 2,
                 32 if four else 3,
                 mark=(3, 3) if seven else (3,),
-                room=8 if eight else 9,
+                room=RECORD_BYTES - 1 if eight else RECORD_BYTES,
                 calls=1,
                 generator=52 if one else FIVE,
             )
@@ -237,11 +222,11 @@ def refused_at_the_edges():
         five.add(20, 2, 3, generator=generator, calls=1)
     for bits in (0, 1, 4, 5, 6, 4095, 4096, 4097, 65536 + 8, 2**32 + 8, 2**63 + 8, 2**64 - 1):
         five.add(bits, 1, 3, calls=1)
-    for limit in (0, 1, 2, 3, 4, 5, 256 + 1, 65536 + 2, 2**32 + 1, 2**63 + 1, 2**64 - 1):
+    for limit in (*range(MOST_POSITIONS + 2), 256 + 1, 65536 + 2, 2**32 + 1, 2**63 + 1, 2**64 - 1):
         five.add(8, limit, 3, calls=1)
     for syndrome in (0, 31, 32, 63, 65536, 65539, 2**32 + 3, 2**63 + 3, 2**64 - 1):
         five.add(8, 2, syndrome, calls=1)
-    for room in range(0, 12):
+    for room in range(RECORD_BYTES + 3):
         five.add(8, 4, 3, room=room, calls=1)
         five.add(8, 1, 3, room=room, calls=1)
     for mark in ((3, 3), (4, 3), (7,), (8,), (65535,), (0, 8), (6, 7), (0, 1, 2), (0, 65535), (0, 0, 0), (0, 1, 2, 3), (2, 1, 3)):

@@ -1,8 +1,13 @@
 """What the scripts that write test vectors share: a reading of docs/RULES.md on Python's integers, with nothing taken from
 the library."""
 from functools import cache
+from itertools import combinations
+from math import comb
 
 FIVE, CCITT = 53, 0x11021
+MOST_POSITIONS = 4  # of a pattern
+RECORD_BYTES = 1 + 2 * MOST_POSITIONS  # of the longest record, and so of the least output of a page
+FEW_SETS = 10**6  # up to so many sets each one is tried
 
 
 def degree_of(generator):
@@ -42,6 +47,11 @@ def unfit_length(generator, bits):
     return not degree_of(generator) < bits <= 4096
 
 
+def unfit_limit(limit):
+    """Condition 3."""
+    return not 1 <= limit <= MOST_POSITIONS
+
+
 def unfit_values(generator, initial, final):
     """Condition 11."""
     return max(initial, final) >= 2 ** degree_of(generator)
@@ -60,6 +70,65 @@ def unfit_field(start, end, field):
 def unfit_check_field(start, end, field):
     """Condition 10, as a repair tests it."""
     return start < end and unfit_field(start, end, field)
+
+
+def in_order(pattern):
+    """The list's order, as a key to sort patterns by: fewer positions first, then by the smallest position that differs."""
+    return len(pattern), pattern
+
+
+@cache
+def powers(generator, bits):
+    """What each power of x leaves."""
+    return [divide(1 << p, generator) for p in range(bits)]
+
+
+@cache
+def every_set(generator, bits, limit):
+    """Every set of at most so many positions, by its syndrome: what is left of its polynomial. Above 64 bits what the single powers
+    leave is added up instead, since there are many sets."""
+    power = powers(generator, bits)
+    found = {}
+    for count in range(limit + 1):
+        for positions in combinations(range(bits), count):
+            if bits <= 64:
+                syndrome = divide(sum(1 << p for p in positions), generator)
+            else:
+                syndrome = 0
+                for p in positions:
+                    syndrome ^= power[p]
+            found.setdefault(syndrome, []).append(positions)
+    return found
+
+
+def looked_up(generator, bits, limit, syndrome):
+    """The sets of one syndrome, each last position from a table of the powers instead of tried."""
+    power = powers(generator, bits)
+    places = {}
+    for p, left in enumerate(power):
+        places.setdefault(left, []).append(p)
+    found = [()] if syndrome == 0 else []
+    for count in range(limit):
+        for positions in combinations(range(bits), count):
+            left = syndrome
+            for p in positions:
+                left ^= power[p]
+            found += [(*positions, q) for q in places.get(left, []) if not positions or positions[-1] < q]
+    return found
+
+
+assert sorted(looked_up(FIVE, 24, 3, 9)) == sorted(every_set(FIVE, 24, 3)[9])
+assert sorted(looked_up(CCITT, 40, 3, 0x1021)) == sorted(every_set(CCITT, 40, 3)[0x1021])
+
+
+@cache
+def listed(generator, bits, limit, syndrome):
+    """The list: of all sets of at most so many positions those with the syndrome, in the order."""
+    if sum(comb(bits, count) for count in range(limit + 1)) <= FEW_SETS:
+        found = every_set(generator, bits, limit).get(syndrome, [])
+    else:
+        found = looked_up(generator, bits, limit, syndrome)
+    return sorted(found, key=in_order)
 
 
 def checksum(data):

@@ -1,25 +1,22 @@
 #!/usr/bin/env python3
 """Writes the vectors of the program repair_test: crates/repair_test/stdin, and the stdout that it is held to.
 
-The verdicts are found by brute force, by docs/RULES.md: every set of at most N positions is flipped whose remainder, by
-long division on Python's integers, is the packet's, and the flipped packet's field and range are looked at. Only for packets of 64 and 512
-bytes is the last position looked up by its power's remainder instead of tried. Nothing here is taken from the library. Run it
-from anywhere:
+The verdicts are found by brute force, by docs/RULES.md: every set of the list, which is that of reference.py for the packet's
+remainder, is flipped, and the flipped packet's field and range are looked at. Nothing here is taken from the library. Run it from
+anywhere:
 
     python3 tests/repair_vectors.py
 """
 from collections import Counter
-from functools import cache
 from itertools import combinations, product
 from pathlib import Path
 from random import Random
 
-from reference import CCITT, FIVE, checksum, degree_of, divide, filled, fnv, passes, remainder_of, stamped
-from reference import unfit_check_field, unfit_generator, unfit_length, unfit_range, unfit_values
+from reference import CCITT, FIVE, MOST_POSITIONS, checksum, degree_of, filled, fnv, listed, passes, remainder_of, stamped
+from reference import unfit_check_field, unfit_generator, unfit_length, unfit_limit, unfit_range, unfit_values
 
 TARGET = Path(__file__).resolve().parent.parent / "crates" / "repair_test"
 THREE, EIGHT = 11, 0x107  # degrees 3 and 8
-SMALL = 48  # bits of the longest packet whose every combination is tried
 
 random = Random(1071)
 
@@ -31,54 +28,9 @@ def flip(packet, positions):
     return value.to_bytes(len(packet), "big")
 
 
-@cache
-def powers(generator, bits):
-    return [divide(1 << p, generator) for p in range(bits)]
-
-
-@cache
-def every_pattern(generator, bits, limit):
-    """Every set of at most so many positions, by its remainder."""
-    power = powers(generator, bits)
-    lists = {}
-    for count in range(limit + 1):
-        for positions in combinations(range(bits), count):
-            left = 0
-            for p in positions:
-                left ^= power[p]
-            lists.setdefault(left, []).append(positions)
-    return lists
-
-
-def looked_up(generator, bits, limit, syndrome):
-    """The same patterns of one remainder, each last position from a table of the powers."""
-    power = powers(generator, bits)
-    places = {}
-    for p, left in enumerate(power):
-        places.setdefault(left, []).append(p)
-    found = [()] if syndrome == 0 else []
-    for count in range(limit):
-        for positions in combinations(range(bits), count):
-            left = syndrome
-            for p in positions:
-                left ^= power[p]
-            found += [(*positions, q) for q in places.get(left, []) if not positions or positions[-1] < q]
-    return found
-
-
-assert sorted(looked_up(FIVE, 24, 3, 9)) == sorted(every_pattern(FIVE, 24, 3)[9])
-assert sorted(looked_up(CCITT, 40, 3, 0x1021)) == sorted(every_pattern(CCITT, 40, 3)[0x1021])
-
-
 def listing(generator, limit, packet, values=(0, 0)):
-    """The list for a packet, in order: fewer positions first, then by the smallest position that differs."""
-    bits = 8 * len(packet)
-    syndrome = remainder_of(packet, generator, *values)
-    if bits <= SMALL:
-        listed = every_pattern(generator, bits, limit).get(syndrome, [])
-    else:
-        listed = looked_up(generator, bits, limit, syndrome)
-    return sorted(listed, key=lambda pattern: (len(pattern), pattern))
+    """The list for a packet."""
+    return listed(generator, 8 * len(packet), limit, remainder_of(packet, generator, *values))
 
 
 def verdict(generator, check, limit, packet, values=(0, 0), passing=passes):
@@ -128,7 +80,7 @@ class Group:
             return 2
         if unfit_values(generator, *values):
             return 11
-        if not 1 <= limit <= 4:
+        if unfit_limit(limit):
             return 3
         if self.lent != (2**degree, 2**degree):
             return 5
@@ -160,8 +112,7 @@ class Group:
         if kind == "several":
             named = f"{len(passing)} {named}"
             fewest = [p for p in passing if len(p) == len(passing[0])]
-            listed = listing(generator, limit, packet, values)
-            wrong = {"first listed": listed[0], "last": passing[-1], "last of the fewest positions": fewest[-1]}
+            wrong = {"first listed": listing(generator, limit, packet, values)[0], "last": passing[-1], "last of the fewest positions": fewest[-1]}
             others.update(choice for choice, pattern in wrong.items() if pattern != passing[0])
         return f"{kind} {named}{fnv(copy)} {len(published)} {fnv(published)}"
 
@@ -213,7 +164,7 @@ def worked_by_hand():
     assert stamped(bytes.fromhex("FFFF123400"), 0, 4, 2) == bytes.fromhex("FFFFFFFF00")
     assert stamped(bytes.fromhex("FFFF123400"), 0, 4, 0) == bytes.fromhex("EDCB123400")
     five = Group(FIVE)
-    for text, limits in (("FFFF05", (1, 2, 3, 4)), ("7FFF05", (1,)), ("FFFF06", (1, 2)), ("000000", (1, 2)), ("800000", (1,))):
+    for text, limits in (("FFFF05", range(1, MOST_POSITIONS + 1)), ("7FFF05", (1,)), ("FFFF06", (1, 2)), ("000000", (1, 2)), ("800000", (1,))):
         for limit in limits:
             five.add(*check, limit, bytes.fromhex(text))
     nine = bytes.fromhex("7FFF02")
@@ -268,7 +219,7 @@ def by_chance():
             e = random.randint(a + 2, end)
             seed = random.randrange(2**32)
             group.add(a, e, a + 2 * random.randrange((e - a) // 2), random.randint(1, 3), filled(length, seed), seed=seed)
-        for length, byte, limit in product((4, 5), (0, 255), (1, 2, 3, 4)):
+        for length, byte, limit in product((4, 5), (0, 255), range(1, MOST_POSITIONS + 1)):
             group.add(0, 2, 0, limit, bytes([byte]) * length)
 
 
@@ -375,7 +326,7 @@ def refused_in_order():
                 0,
                 3 if nine else 2,
                 1 if ten else 0,
-                5 if three else 1,
+                MOST_POSITIONS + 1 if three else 1,
                 data,
                 room=len(data) + 1 if eight else len(data),
                 generator=52 if one else FIVE,
@@ -395,7 +346,7 @@ def refused_at_the_edges():
     for value in (31, 32, 33, 2**16, 2**32, 2**32 + 1, 2**63, 2**64 - 1):
         for values in ((value, 0), (0, value), (value, value)):
             five.add(0, 2, 0, 1, packet, values=values)
-    for limit in (0, 1, 2, 3, 4, 5, 256 + 1, 65536 + 2, 2**32 + 1, 2**63 + 1, 2**64 - 1):
+    for limit in (*range(MOST_POSITIONS + 2), 256 + 1, 65536 + 2, 2**32 + 1, 2**63 + 1, 2**64 - 1):
         five.add(0, 2, 0, limit, packet)
     for room in (0, 1, 2, 3, 4, 5, 256 + 3, 1024):
         five.add(0, 2, 0, 1, packet, room=room)

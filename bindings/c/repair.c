@@ -10,6 +10,7 @@
 #include "rangqoda.h"
 
 #include <stdio.h>
+#include <string.h>
 
 #define CRC RANGQODA_CRC_16_XMODEM
 #define ENTRIES 65536 /* 2^16, since the generator's degree is 16 */
@@ -35,10 +36,11 @@ int main(int argc, char **argv)
     }
     fclose(file);
 
-    /* These numbers fit, so this is not refused; and an unfit length is refused below. */
-    rangqoda_tables(RANGQODA_GENERATOR_OF(CRC), step, ENTRIES, first, ENTRIES, &period);
-    uint32_t refused = rangqoda_repair(CRC, 0, len - 2, len - 4, LIMIT, step, ENTRIES, first, ENTRIES,
-                                       packet, len, copy, len, verdict, sizeof verdict);
+    memset(verdict, 0xFF, sizeof verdict); /* zeros would say that the packet is intact */
+    uint32_t refused = rangqoda_tables(RANGQODA_GENERATOR_OF(CRC), step, ENTRIES, first, ENTRIES, &period);
+    if (!refused) /* an unfit length is refused here */
+        refused = rangqoda_repair(CRC, 0, len - 2, len - 4, LIMIT, step, ENTRIES, first, ENTRIES, packet, len, copy, len,
+                                  verdict, sizeof verdict);
     if (refused) {
         fprintf(stderr, "refused %u\n", (unsigned)refused);
         return 2;

@@ -20,6 +20,7 @@ fn main() {
     if !archive.is_file() {
         eprintln!("{} is not there.", archive.display());
         eprintln!("Make it by this command in the root of the repository: rt staticlib rangqoda");
+        eprintln!("Or name the folder of one that was kept, by the variable RANGQODA_LIB_DIR.");
         exit(1);
     }
     println!("cargo:rustc-link-search=native={}", folder.display());

@@ -139,6 +139,44 @@ static void named(void)
     }
 }
 
+/* CRCs by width and polynomial, and by other names: those that the names above stand for. What does not fit the width is refused. */
+static void of_width(void)
+{
+    static const uint64_t other[][3] = {
+        { RANGQODA_OF_WIDTH(16, 0x1021, 0xFFFF, 0) }, { RANGQODA_CRC_16_CCITT_FALSE },
+        { RANGQODA_OF_WIDTH(16, 0x8005, 0, 0) },      { RANGQODA_CRC_16_BUYPASS },
+        { RANGQODA_OF_WIDTH(15, 0x4599, 0, 0) },      { RANGQODA_CRC_15 },
+        { RANGQODA_OF_WIDTH(8, 0x07, 0, 0x55) },      { RANGQODA_CRC_8_ITU },
+        { RANGQODA_OF_WIDTH(3, 0x3, 0, 0x7) },        { RANGQODA_CRC_3_GSM },
+    };
+    static const uint64_t named[][3] = { { RANGQODA_CRC_16_IBM_3740 }, { RANGQODA_CRC_16_UMTS }, { RANGQODA_CRC_15_CAN },
+                                         { RANGQODA_CRC_8_I_432_1 },   { RANGQODA_CRC_3_GSM } };
+    uint8_t packet[11] = { '1', '2', '3', '4', '5', '6', '7', '8', '9', 0, 0 };
+
+    for (size_t k = 0; k < sizeof other / sizeof *other; k++)
+        EXPECT(memcmp(other[k], named[k / 2], sizeof *other) == 0);
+    for (unsigned width = 0; width < 70; width++) {
+        uint64_t most = width < 64 ? ((uint64_t)1 << width) - 1 : UINT64_MAX, right = width < 3 || width > 16 ? 0 : most + 1;
+
+        EXPECT(RANGQODA_GENERATOR_OF(RANGQODA_OF_WIDTH(width, 1, 0, 0)) == (right ? right + 1 : 0));
+        EXPECT(RANGQODA_GENERATOR_OF(RANGQODA_OF_WIDTH(width, most, 0, 0)) == (right ? right + most : 0));
+        EXPECT(RANGQODA_GENERATOR_OF(RANGQODA_OF_WIDTH(width, most + 1, 0, 0)) == 0 || width == 64);
+    }
+    EXPECT(rangqoda_seal(RANGQODA_OF_WIDTH(16, 0x1021, 0xFFFF, 0), packet, sizeof packet) == RANGQODA_ACCEPTED);
+    EXPECT(packet[9] == 0x29 && packet[10] == 0xB1);
+    EXPECT(rangqoda_seal(RANGQODA_CRC_16_AUG_CCITT, packet, sizeof packet) == RANGQODA_ACCEPTED);
+    EXPECT(packet[9] == 0xE5 && packet[10] == 0xCC);
+    EXPECT(rangqoda_seal(RANGQODA_ZMODEM, packet, sizeof packet) == RANGQODA_ACCEPTED);
+    EXPECT(packet[9] == 0x31 && packet[10] == 0xC3);
+    EXPECT(rangqoda_seal(RANGQODA_OF_WIDTH(16, 0x11021, 0, 0), packet, sizeof packet) == RANGQODA_REFUSED_GENERATOR);
+    EXPECT(rangqoda_seal(RANGQODA_OF_WIDTH(12, 0x1021, 0, 0), packet, sizeof packet) == RANGQODA_REFUSED_GENERATOR);
+    EXPECT(rangqoda_seal(RANGQODA_OF_WIDTH(16, 0x8408, 0, 0), packet, sizeof packet) == RANGQODA_REFUSED_GENERATOR);
+    EXPECT(rangqoda_seal(RANGQODA_OF_WIDTH(17, 0x1021, 0, 0), packet, sizeof packet) == RANGQODA_REFUSED_GENERATOR);
+    EXPECT(rangqoda_seal(RANGQODA_OF_WIDTH(16, 0x1021, 0x10000, 0), packet, sizeof packet) == RANGQODA_REFUSED_VALUES);
+    EXPECT(rangqoda_seal(RANGQODA_OF_WIDTH(16, 0x1021, 0, 0x10000), packet, sizeof packet) == RANGQODA_REFUSED_VALUES);
+    EXPECT(packet[9] == 0x31 && packet[10] == 0xC3);
+}
+
 /* The remainder by the rule's words: the values XORed into the first and the last bits, then division bit by bit. */
 static uint64_t divided(uint64_t generator, unsigned n, uint64_t initial, uint64_t final, const uint8_t *packet, unsigned len)
 {
@@ -235,8 +273,8 @@ static void unfit_values(void)
             size_t len = other == 2 ? 0 : 3;
 
             step[1] = other == 6 ? 0 : 26;
-            EXPECT(rangqoda_repair(generator, unfit[k][0], unfit[k][1], 0, other == 9 ? 3 : 2, other == 10, other == 3 ? 5 : 1,
-                                   step, other == 5 ? 31 : 32, first, 32, packet, len, output, other == 8 ? 2 : len, verdict,
+            EXPECT(rangqoda_repair(generator, unfit[k][0], unfit[k][1], 0, other == 9 ? 3 : 2, other == 10,
+                                   other == 3 ? RANGQODA_MOST_POSITIONS + 1 : 1, step, other == 5 ? 31 : 32, first, 32, packet, len, output, other == 8 ? 2 : len, verdict,
                                    sizeof verdict) == number);
             EXPECT(rangqoda_remainder(generator, unfit[k][0], unfit[k][1], packet, len, &left) == number);
             EXPECT(rangqoda_seal(generator, unfit[k][0], unfit[k][1], packet, len) == number);
@@ -397,6 +435,45 @@ static void intact(void)
     EXPECT(wrong == 0);
 }
 
+/* Remainder and sum before a repair, as the header says: they tell an intact packet as the repair does. Packets from a seed, as they
+   are, with a bit flipped in the data or in the field, and sealed with a field of zero or another one. */
+static void intact_by_remainder_and_sum(void)
+{
+    uint8_t packet[16], output[16], verdict[RANGQODA_VERDICT_BYTES];
+    const size_t len = sizeof packet, end = 14, field = 12;
+    uint64_t period, left, wrong = 0, said[2] = { 0, 0 };
+    uint32_t state = 1;
+
+    EXPECT(rangqoda_tables(RANGQODA_CCITT, step, ENTRIES, first, ENTRIES, &period) == RANGQODA_ACCEPTED);
+    for (unsigned k = 0; k < 1000; k++) {
+        int intact = 0;
+
+        wrong += rangqoda_make(RANGQODA_CRC_16_GENIBUS, state, 0, end, field, packet, len, &state) != 0;
+        if (k % 5 == 1 || k % 5 == 2)
+            packet[k % 5 == 1 ? k % 12 : field] ^= 0x20;
+        if (k % 5 >= 3) {
+            packet[field] = 0;
+            packet[field + 1] = k % 5 == 3 ? 0 : 7;
+            wrong += rangqoda_seal(RANGQODA_CRC_16_GENIBUS, packet, len) != 0;
+        }
+        if (rangqoda_remainder(RANGQODA_CRC_16_GENIBUS, packet, len, &left) == 0 && left == 0 &&
+            ((packet[field] == 0 && packet[field + 1] == 0) || rangqoda_sum(packet, end) == 0xFFFF))
+            intact = 1;
+        memset(verdict, 0xFF, sizeof verdict);
+        wrong += rangqoda_repair(RANGQODA_CRC_16_GENIBUS, 0, end, field, 1, step, ENTRIES, first, ENTRIES, packet, len, output, len,
+                                 verdict, sizeof verdict) != 0;
+        wrong += intact != (verdict[0] == RANGQODA_INTACT);
+        said[intact]++;
+    }
+    EXPECT(wrong == 0 && said[0] >= 400 && said[1] >= 400);
+
+    /* a verdict that was filled with FFh, and a refusal that is overlooked */
+    memset(verdict, 0xFF, sizeof verdict);
+    EXPECT(rangqoda_repair(RANGQODA_CRC_16_GENIBUS, 0, end, field, 0, step, ENTRIES, first, ENTRIES, packet, len, output, len,
+                           verdict, sizeof verdict) == RANGQODA_REFUSED_LIMIT);
+    EXPECT(rangqoda_publish(verdict, sizeof verdict) == RANGQODA_PUBLISH_NOTHING);
+}
+
 static void tables(void)
 {
     uint64_t period = 77;
@@ -422,8 +499,8 @@ static void pages(void)
     EXPECT(rangqoda_tables(RANGQODA_FIVE, step, 32, first, 32, &period) == RANGQODA_ACCEPTED);
     while (mark[0] != RANGQODA_MARK_ENDED && calls < 10) {
         /* a refused call leaves the mark */
-        EXPECT(rangqoda_page(RANGQODA_FIVE, 9, 2, 30, step, 32, first, 32, mark, sizeof mark, output, 8, &used,
-                             &written) == RANGQODA_REFUSED_OUTPUT);
+        EXPECT(rangqoda_page(RANGQODA_FIVE, 9, 2, 30, step, 32, first, 32, mark, sizeof mark, output, RANGQODA_RECORD_BYTES - 1,
+                             &used, &written) == RANGQODA_REFUSED_OUTPUT);
         EXPECT(rangqoda_page(RANGQODA_FIVE, 9, 2, 30, step, 32, first, 32, mark, sizeof mark, output, sizeof output,
                              &used, &written) == RANGQODA_ACCEPTED);
         memcpy(joined + end, output, used);
@@ -433,7 +510,7 @@ static void pages(void)
     }
     EXPECT(calls == 3 && records == 3 && end == sizeof list && memcmp(joined, list, sizeof list) == 0);
 
-    mark[0] = 5;
+    mark[0] = RANGQODA_MOST_POSITIONS + 1;
     EXPECT(rangqoda_page(RANGQODA_FIVE, 9, 2, 30, step, 32, first, 32, mark, sizeof mark, output, sizeof output, &used,
                          &written) == RANGQODA_REFUSED_MARK);
     step[1] = 0;
@@ -441,61 +518,149 @@ static void pages(void)
                          &written) == RANGQODA_REFUSED_TABLE_ENTRY);
     EXPECT(rangqoda_page(RANGQODA_FIVE, 9, 2, 32, step, 32, first, 32, mark, sizeof mark, output, sizeof output, &used,
                          &written) == RANGQODA_REFUSED_SYNDROME);
-    EXPECT(rangqoda_page(RANGQODA_FIVE, 9, 5, 30, step, 32, first, 32, mark, sizeof mark, output, sizeof output, &used,
-                         &written) == RANGQODA_REFUSED_LIMIT);
+    EXPECT(rangqoda_page(RANGQODA_FIVE, 9, RANGQODA_MOST_POSITIONS + 1, 30, step, 32, first, 32, mark, sizeof mark, output,
+                         sizeof output, &used, &written) == RANGQODA_REFUSED_LIMIT);
 }
 
-/* Writes the record of a set of positions below 8, which are the bits of a byte. Returns 0 where they are more than four. */
-static int record_of(unsigned set, uint8_t *record)
+/* A position more in a record, and the last one less. */
+static void put(uint8_t *record, unsigned p)
 {
-    memset(record, 0, RANGQODA_RECORD_BYTES);
-    for (unsigned p = 0; p < 8; p++)
-        if (set >> p & 1) {
-            if (record[0] == RANGQODA_MOST_POSITIONS)
-                return 0;
-            record[2 + 2 * record[0]] = (uint8_t)p;
-            record[0]++;
-        }
-    return 1;
+    record[1 + 2 * record[0]] = (uint8_t)(p >> 8);
+    record[2 + 2 * record[0]] = (uint8_t)p;
+    record[0]++;
 }
 
-/* A generator with an even number of ones and one with an odd number, every syndrome, after every set of at most four positions:
-   the next record is the lowest of all that come after the mark and leave the syndrome. Padded with zeros, records compare as the
-   list's order does. */
-static void after_every_mark(void)
+static void drop(uint8_t *record)
 {
-    static const uint64_t generators[2] = { 9, 11 };
-    uint8_t mark[RANGQODA_MARK_BYTES], next[RANGQODA_RECORD_BYTES], other[RANGQODA_RECORD_BYTES];
-    uint8_t output[RANGQODA_RECORD_BYTES];
-    uint64_t period, written, wrong = 0;
+    record[0]--;
+    record[1 + 2 * record[0]] = 0;
+    record[2 + 2 * record[0]] = 0;
+}
+
+static unsigned position(const uint8_t *record, unsigned i)
+{
+    return record[1 + 2 * i] * 256u + record[2 + 2 * i];
+}
+
+static void sets_from(unsigned p, unsigned bits, unsigned most, uint8_t *record, void (*visit)(const uint8_t *record))
+{
+    visit(record);
+    for (; record[0] < most && p < bits; p++) {
+        put(record, p);
+        sets_from(p + 1, bits, most, record, visit);
+        drop(record);
+    }
+}
+
+/* Visits every set of at most so many positions below `bits`, as its record and zeros, in no order that matters. */
+static void every_set(unsigned bits, unsigned most, void (*visit)(const uint8_t *record))
+{
+    uint8_t record[RANGQODA_RECORD_BYTES] = { 0 };
+
+    sets_from(0, bits, most, record, visit);
+}
+
+/* The list's order, of records with zeros behind them: fewer positions first, then by the positions from the smallest on. */
+static int comes_before(const uint8_t *a, const uint8_t *b)
+{
+    return memcmp(a, b, RANGQODA_RECORD_BYTES) < 0;
+}
+
+/* Page calls by a generator of degree 3, in 8 bits: the mark of the present one, and the first record that should follow it. */
+static struct {
+    uint64_t generator, syndrome, wrong;
+    uint8_t mark[RANGQODA_MARK_BYTES], next[RANGQODA_RECORD_BYTES];
+    int found;
+} after;
+
+static void follow(const uint8_t *record)
+{
+    uint8_t packet = 0;
+
+    for (unsigned i = 0; i < record[0]; i++)
+        packet = (uint8_t)(packet | 1u << position(record, i));
+    if (divided(after.generator, 3, 0, 0, &packet, 1) != after.syndrome || !comes_before(after.mark, record))
+        return;
+    if (!after.found || comes_before(record, after.next))
+        memcpy(after.next, record, sizeof after.next);
+    after.found = 1;
+}
+
+static void page_after(const uint8_t *record)
+{
+    uint8_t mark[RANGQODA_MARK_BYTES], output[RANGQODA_RECORD_BYTES] = { 0 };
+    uint64_t written;
     size_t used;
 
-    for (unsigned k = 0; k < 2 * 8 * 256; k++) {
-        uint64_t generator = generators[k / 2048], syndrome = k / 256 % 8;
-        int found = 0;
+    memcpy(mark, record, sizeof mark);
+    memcpy(after.mark, record, sizeof mark);
+    after.found = 0;
+    every_set(8, RANGQODA_MOST_POSITIONS, follow);
+    after.wrong += rangqoda_page(after.generator, 8, RANGQODA_MOST_POSITIONS, after.syndrome, step, 8, first, 8, mark, sizeof mark,
+                                 output, sizeof output, &used, &written) != RANGQODA_ACCEPTED;
+    if (after.found)
+        after.wrong += written == 0 || memcmp(output, after.next, 1 + 2u * after.next[0]) != 0;
+    else
+        after.wrong += written != 0 || mark[0] != RANGQODA_MARK_ENDED;
+}
 
-        if (!record_of(k % 256, mark))
-            continue;
-        for (unsigned set = 0; set < 256; set++) {
-            uint8_t packet = (uint8_t)set;
+/* A generator with an even number of ones and one with an odd number, every syndrome, after every set: the next record is the
+   first, in the list's order, of all that come after the mark and leave the syndrome. */
+static void after_every_mark(void)
+{
+    uint64_t period;
 
-            if (!record_of(set, other) || divided(generator, 3, 0, 0, &packet, 1) != syndrome)
-                continue;
-            if (memcmp(other, mark, sizeof other) > 0 && (!found || memcmp(other, next, sizeof other) < 0)) {
-                memcpy(next, other, sizeof next);
-                found = 1;
-            }
-        }
-        memset(output, 0, sizeof output);
-        wrong += rangqoda_tables(generator, step, 8, first, 8, &period) != RANGQODA_ACCEPTED;
-        wrong += rangqoda_page(generator, 8, 4, syndrome, step, 8, first, 8, mark, sizeof mark, output, sizeof output, &used,
-                               &written) != RANGQODA_ACCEPTED;
-        if (found)
-            wrong += written == 0 || memcmp(output, next, 1 + 2u * next[0]) != 0;
-        else
-            wrong += written != 0 || mark[0] != RANGQODA_MARK_ENDED;
+    for (after.generator = 9; after.generator <= 11; after.generator += 2) {
+        EXPECT(rangqoda_tables(after.generator, step, 8, first, 8, &period) == RANGQODA_ACCEPTED);
+        for (after.syndrome = 0; after.syndrome < 8; after.syndrome++)
+            every_set(8, RANGQODA_MOST_POSITIONS, page_after);
     }
-    EXPECT(wrong == 0);
+    EXPECT(after.wrong == 0);
+}
+
+/* A list of several MiB, read to its end as the header says. Each record is one of the list and comes after the one before, and they
+   are as many as the list has: so none is missing. How many it has is counted without listing any, by position after position. */
+static void long_list(void)
+{
+    static uint8_t output[1 << 16], power[4096];
+    uint8_t mark[RANGQODA_MARK_BYTES] = { RANGQODA_MARK_START }, last[RANGQODA_RECORD_BYTES] = { 0 };
+    uint64_t sets[3][8] = { { 1 } }, period, written, told = 0, records = 0, wrong = 0;
+    size_t used, bytes = 0, pages = 0;
+
+    for (unsigned p = 0, left = 1; p < 4096; p++) {
+        power[p] = (uint8_t)left;
+        for (unsigned k = 2; k > 0; k--)
+            for (unsigned r = 0; r < 8; r++)
+                sets[k][r ^ left] += sets[k - 1][r];
+        left = left << 1 & 8 ? left << 1 ^ 11 : left << 1;
+    }
+    EXPECT(rangqoda_tables(11, step, 8, first, 8, &period) == RANGQODA_ACCEPTED);
+    while (mark[0] != RANGQODA_MARK_ENDED) {
+        if (rangqoda_page(11, 4096, 2, 5, step, 8, first, 8, mark, sizeof mark, output, sizeof output, &used, &written) != 0)
+            break;
+        for (size_t at = 0; at < used; at += 1 + 2u * last[0]) {
+            uint8_t record[RANGQODA_RECORD_BYTES] = { 0 };
+            unsigned left = 0;
+
+            if (output[at] > 2 || at + 1 + 2u * output[at] > used) {
+                wrong++;
+                break;
+            }
+            memcpy(record, output + at, 1 + 2u * output[at]);
+            for (unsigned i = 0; i < record[0]; i++)
+                left ^= power[position(record, i) % 4096];
+            wrong += left != 5 || position(record, 0) >= 4096 || !comes_before(last, record);
+            wrong += record[0] == 2 && (position(record, 1) >= 4096 || position(record, 0) >= position(record, 1));
+            memcpy(last, record, sizeof last);
+            records++;
+        }
+        told += written;
+        bytes += used;
+        pages++;
+    }
+    EXPECT(mark[0] == RANGQODA_MARK_ENDED && wrong == 0);
+    EXPECT(records == sets[0][5] + sets[1][5] + sets[2][5] && told == records);
+    EXPECT(bytes > (size_t)3 << 20 && pages > 50);
 }
 
 static void repairs(void)
@@ -549,7 +714,7 @@ static void repair_refused_in_order(void)
     static const uint32_t order[] = { 1, 2, 11, 3, 5, 6, 8, 9, 10 };
     static const size_t ranges[][2] = { { 0, 5 }, { 2, 5 }, { 0, SIZE_MAX }, { 4, 3 } };
     static const size_t fields[] = { 1, 3, (size_t)-2, ((size_t)1 << 32) + 2 };
-    static const uint8_t nines[5] = { 9, 9, 9, 9, 9 };
+    static const uint8_t nines[6] = { 9, 9, 9, 9, 9, 9 };
     uint64_t period;
 
     EXPECT(rangqoda_tables(RANGQODA_FIVE, step, 32, first, 32, &period) == RANGQODA_ACCEPTED);
@@ -558,12 +723,12 @@ static void repair_refused_in_order(void)
         unsigned broken = 1u << order[a] | 1u << order[b];
         size_t start = broken & 1u << 9 ? ranges[way][0] : 0, end = broken & 1u << 9 ? ranges[way][1] : 4;
         size_t field = broken & 1u << 10 ? fields[way] : 2, len = broken & 1u << 2 ? 0 : 5;
-        uint8_t output[5], verdict[RANGQODA_VERDICT_BYTES] = { 77 };
+        uint8_t output[6], verdict[RANGQODA_VERDICT_BYTES] = { 77 }; /* one byte more than the packet, for 8 */
 
         memcpy(output, nines, sizeof output);
         step[1] = broken & 1u << 6 ? 0 : 26;
         EXPECT(rangqoda_repair(broken & 1u << 1 ? 52 : RANGQODA_FIVE, broken & 1u << 11 ? 32 : 0, 0, start, end, field,
-                               broken & 1u << 3 ? 5 : 1, step, broken & 1u << 5 ? 31 : 32, first, 32, nines, len, output,
+                               broken & 1u << 3 ? RANGQODA_MOST_POSITIONS + 1 : 1, step, broken & 1u << 5 ? 31 : 32, first, 32, nines, len, output,
                                broken & 1u << 8 ? len + 1 : len, verdict, sizeof verdict) == order[a < b ? a : b]);
         EXPECT(verdict[0] == 77 && memcmp(output, nines, sizeof output) == 0);
     }
@@ -586,9 +751,6 @@ static const struct checked { size_t len, start, end, field; uint8_t sent[5]; } 
     { 5, 1, 4, 1, { 0x55, 0x00, 0x00, 0x12, 0x00 } },
 };
 
-static uint8_t earliest[RANGQODA_RECORD_BYTES];
-static uint64_t passing, listed_before;
-
 /* Whether the packet passes the second check: its field is zero, or its words, with the carries added back in, sum to FFFFh. */
 static int second_check(const struct checked *c, const uint8_t *packet)
 {
@@ -603,30 +765,29 @@ static int second_check(const struct checked *c, const uint8_t *packet)
     return total == 0xFFFF;
 }
 
-/* Flips every set of as many positions as the record has, in order, those before `placed` being in it and the others from p on:
-   notes the first set that passes, how many do, and how many are listed before it. */
-static void flip_sets(const struct checked *c, uint8_t *packet, uint8_t *record, unsigned placed, unsigned p)
+/* Flips of a packet: how many sets leave remainder 0, how many of them pass, and the first of each in the list's order. */
+static struct {
+    const struct checked *of;
+    uint8_t packet[5], first_listed[RANGQODA_RECORD_BYTES], first_passing[RANGQODA_RECORD_BYTES];
+    uint64_t listed, passing;
+} tried;
+
+static void try_set(const uint8_t *record)
 {
+    uint8_t packet[5];
     uint64_t left;
 
-    if (placed == record[0]) {
-        if (rangqoda_remainder(9, 0, 0, packet, c->len, &left) != 0 || left != 0)
-            return;
-        if (!second_check(c, packet)) {
-            listed_before += passing == 0;
-            return;
-        }
-        if (passing == 0)
-            memcpy(earliest, record, sizeof earliest);
-        passing++;
+    memcpy(packet, tried.packet, sizeof packet);
+    for (unsigned i = 0; i < record[0]; i++)
+        flip(packet, tried.of->len, position(record, i));
+    if (rangqoda_remainder(9, 0, 0, packet, tried.of->len, &left) != 0 || left != 0)
         return;
-    }
-    for (; p < 8 * c->len; p++) {
-        flip(packet, c->len, p);
-        record[2 + 2 * placed] = (uint8_t)p;
-        flip_sets(c, packet, record, placed + 1, p + 1);
-        flip(packet, c->len, p);
-    }
+    if (tried.listed++ == 0 || comes_before(record, tried.first_listed))
+        memcpy(tried.first_listed, record, sizeof tried.first_listed);
+    if (!second_check(tried.of, packet))
+        return;
+    if (tried.passing++ == 0 || comes_before(record, tried.first_passing))
+        memcpy(tried.first_passing, record, sizeof tried.first_passing);
 }
 
 /* Every damage of two bits in three and in five bytes, sent with a checksum and with a field of zero, by a generator of degree 3: the
@@ -634,8 +795,8 @@ static void flip_sets(const struct checked *c, uint8_t *packet, uint8_t *record,
    not the first listed. */
 static void verdicts_by_brute_force(void)
 {
-    uint8_t verdict[RANGQODA_VERDICT_BYTES], right[RANGQODA_VERDICT_BYTES], output[5], sent[5], packet[5];
-    uint64_t period, wrong = 0, later = 0;
+    uint8_t verdict[RANGQODA_VERDICT_BYTES], right[RANGQODA_VERDICT_BYTES], output[5], sent[5];
+    uint64_t period, left, wrong = 0, later = 0;
 
     EXPECT(rangqoda_tables(9, step, 8, first, 8, &period) == RANGQODA_ACCEPTED);
     for (size_t k = 0; k < sizeof checked / sizeof *checked; k++) {
@@ -646,31 +807,29 @@ static void verdicts_by_brute_force(void)
         EXPECT(rangqoda_seal(9, 0, 0, sent, c->len) == RANGQODA_ACCEPTED);
         for (unsigned m = 0; m < bits * bits * 3; m++) {
             unsigned p = m % bits, q = m / bits % bits, limit = 1 + m / bits / bits;
-            uint8_t record[RANGQODA_RECORD_BYTES] = { 0 };
 
             if (q > p || (limit == 3 && c->len > 3))
                 continue;
-            memcpy(packet, sent, sizeof packet);
-            flip(packet, c->len, p);
-            flip(packet, c->len, q);
-            passing = listed_before = 0;
+            memset(&tried, 0, sizeof tried);
             memset(right, 0, sizeof right);
             memset(verdict, 0xAA, sizeof verdict);
-            flip_sets(c, packet, record, 0, 0);
-            if (passing > 0) {
+            tried.of = c;
+            memcpy(tried.packet, sent, sizeof sent);
+            flip(tried.packet, c->len, p);
+            flip(tried.packet, c->len, q);
+            wrong += rangqoda_remainder(9, 0, 0, tried.packet, c->len, &left) != 0;
+            if (left == 0 && second_check(c, tried.packet)) {
                 right[0] = RANGQODA_INTACT;
             } else {
-                for (record[0] = 1; record[0] <= limit; record[0]++)
-                    flip_sets(c, packet, record, 0, 0);
-                right[0] = passing == 0 ? RANGQODA_NONE : passing == 1 ? RANGQODA_REPAIRED : RANGQODA_SEVERAL;
-                right[8] = (uint8_t)passing;
-                if (passing > 0)
-                    memcpy(right + 9, earliest, sizeof earliest);
+                every_set(bits, limit, try_set);
+                right[0] = tried.passing == 0 ? RANGQODA_NONE : tried.passing == 1 ? RANGQODA_REPAIRED : RANGQODA_SEVERAL;
+                right[8] = (uint8_t)tried.passing;
+                memcpy(right + 9, tried.first_passing, sizeof tried.first_passing);
             }
-            wrong += rangqoda_repair(9, 0, 0, c->start, c->end, c->field, limit, step, 8, first, 8, packet, c->len, output,
+            wrong += rangqoda_repair(9, 0, 0, c->start, c->end, c->field, limit, step, 8, first, 8, tried.packet, c->len, output,
                                      c->len, verdict, sizeof verdict) != 0;
-            wrong += passing > 255 || memcmp(verdict, right, sizeof right) != 0;
-            later += passing > 1 && listed_before > 0;
+            wrong += tried.passing > 255 || memcmp(verdict, right, sizeof right) != 0;
+            later += tried.passing > 1 && comes_before(tried.first_listed, tried.first_passing);
         }
     }
     EXPECT(wrong == 0);
@@ -826,6 +985,7 @@ int main(void)
 {
     remainder_and_seal();
     named();
+    of_width();
     by_ccitt();
     overlapping();
     unfit_values();
@@ -838,7 +998,9 @@ int main(void)
     tables();
     pages();
     after_every_mark();
+    long_list();
     repairs();
+    intact_by_remainder_and_sum();
     repair_refused_in_order();
     verdicts_by_brute_force();
     no_checksum();

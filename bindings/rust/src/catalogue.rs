@@ -1,5 +1,6 @@
 //! CRCs that the catalogue of parametrised CRC algorithms names: degree 3 to 16, the highest bit first, nothing reflected. The
-//! names are those of the `crc` crate. [Which CRC this is](crate#which-crc-this-is) says how a packet is laid out for them.
+//! names are those of the `crc` crate; behind them stand the other names that the catalogue has for some of them.
+//! [Which CRC this is](crate#which-crc-this-is) says how a packet is laid out for them.
 
 use crate::Crc;
 
@@ -12,7 +13,7 @@ macro_rules! catalogue {
             pub const $name: Crc = Crc { generator: $generator, init: $init, xorout: $xorout };
         )*
 
-        /// Every constant of this module, with its name in the catalogues.
+        /// Every CRC of this module once, with its name in the catalogues.
         pub const ALL: &[(&str, Crc)] = &[$(($called, $name)),*];
     };
 }
@@ -70,4 +71,46 @@ catalogue! {
     CRC_16_TELEDISK "CRC-16/TELEDISK" 0x1A097 0x0000 0x0000
     CRC_16_UMTS "CRC-16/UMTS" 0x18005 0x0000 0x0000
     CRC_16_XMODEM "CRC-16/XMODEM" 0x11021 0x0000 0x0000
+}
+
+/// Defines further names of the constants, and lists them.
+macro_rules! aliases {
+    ($($name:ident $called:literal $of:ident)*) => {
+        $(
+            #[doc = concat!($called, ", another name of [`", stringify!($of), "`].")]
+            pub const $name: Crc = $of;
+        )*
+
+        /// Every other name, as the catalogues write it, with its CRC.
+        pub const ALIASES: &[(&str, Crc)] = &[$(($called, $name)),*];
+    };
+}
+
+#[rustfmt::skip]
+aliases! {
+    CRC_5_EPC "CRC-5/EPC" CRC_5_EPC_C1G2
+    CRC_7 "CRC-7" CRC_7_MMC
+    CRC_8 "CRC-8" CRC_8_SMBUS
+    CRC_8_ITU "CRC-8/ITU" CRC_8_I_432_1
+    CRC_10 "CRC-10" CRC_10_ATM
+    CRC_10_I_610 "CRC-10/I-610" CRC_10_ATM
+    CRC_11 "CRC-11" CRC_11_FLEXRAY
+    X_CRC_12 "X-CRC-12" CRC_12_DECT
+    CRC_15 "CRC-15" CRC_15_CAN
+    R_CRC_16 "R-CRC-16" CRC_16_DECT_R
+    X_CRC_16 "X-CRC-16" CRC_16_DECT_X
+    CRC_16_DARC "CRC-16/DARC" CRC_16_GENIBUS
+    CRC_16_EPC "CRC-16/EPC" CRC_16_GENIBUS
+    CRC_16_EPC_C1G2 "CRC-16/EPC-C1G2" CRC_16_GENIBUS
+    CRC_16_I_CODE "CRC-16/I-CODE" CRC_16_GENIBUS
+    CRC_16_AUTOSAR "CRC-16/AUTOSAR" CRC_16_IBM_3740
+    CRC_16_CCITT_FALSE "CRC-16/CCITT-FALSE" CRC_16_IBM_3740
+    CRC_16_IEC_61158_2 "CRC-16/IEC-61158-2" CRC_16_PROFIBUS
+    CRC_16_AUG_CCITT "CRC-16/AUG-CCITT" CRC_16_SPI_FUJITSU
+    CRC_16_BUYPASS "CRC-16/BUYPASS" CRC_16_UMTS
+    CRC_16_VERIFONE "CRC-16/VERIFONE" CRC_16_UMTS
+    CRC_16_ACORN "CRC-16/ACORN" CRC_16_XMODEM
+    CRC_16_LTE "CRC-16/LTE" CRC_16_XMODEM
+    CRC_16_V_41_MSB "CRC-16/V-41-MSB" CRC_16_XMODEM
+    ZMODEM "ZMODEM" CRC_16_XMODEM
 }

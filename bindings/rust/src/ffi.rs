@@ -5,6 +5,7 @@
 //! and bytes themselves may be any: the functions judge them.
 
 extern "C" {
+    #[must_use]
     pub fn rangqoda_remainder(
         generator: u64,
         init: u64,
@@ -14,10 +15,12 @@ extern "C" {
         remainder: *mut u64,
     ) -> u32;
 
+    #[must_use]
     pub fn rangqoda_seal(generator: u64, init: u64, xorout: u64, packet: *mut u8, packet_len: usize) -> u32;
 
     pub fn rangqoda_sum(bytes: *const u8, len: usize) -> u16;
 
+    #[must_use]
     pub fn rangqoda_stamp(
         generator: u64,
         start: usize,
@@ -27,6 +30,7 @@ extern "C" {
         packet_len: usize,
     ) -> u32;
 
+    #[must_use]
     pub fn rangqoda_make(
         generator: u64,
         init: u64,
@@ -40,6 +44,7 @@ extern "C" {
         state: *mut u32,
     ) -> u32;
 
+    #[must_use]
     pub fn rangqoda_scatter(
         rows: usize,
         columns: usize,
@@ -49,6 +54,7 @@ extern "C" {
         output_len: usize,
     ) -> u32;
 
+    #[must_use]
     pub fn rangqoda_gather(
         rows: usize,
         columns: usize,
@@ -58,6 +64,7 @@ extern "C" {
         output_len: usize,
     ) -> u32;
 
+    #[must_use]
     pub fn rangqoda_tables(
         generator: u64,
         step: *mut u16,
@@ -67,6 +74,7 @@ extern "C" {
         period: *mut u64,
     ) -> u32;
 
+    #[must_use]
     pub fn rangqoda_page(
         generator: u64,
         length: usize,
@@ -84,6 +92,7 @@ extern "C" {
         written: *mut u64,
     ) -> u32;
 
+    #[must_use]
     pub fn rangqoda_repair(
         generator: u64,
         init: u64,
@@ -104,5 +113,6 @@ extern "C" {
         verdict_len: usize,
     ) -> u32;
 
+    #[must_use]
     pub fn rangqoda_publish(verdict: *const u8, verdict_len: usize) -> u32;
 }

@@ -13,7 +13,9 @@
 //! # Terms
 //!
 //! - A *generator* is a binary polynomial as a number: 2^i stands for x^i. Its degree n is the exponent of its leading
-//!   term. Accepted: odd numbers with n from 3 to 16.
+//!   term. Accepted: odd numbers with n from 3 to 16. Catalogues leave the leading term out. What they write as 1021h is
+//!   11021h here: 1021h itself is accepted too, as a generator of degree 12, and seals wrongly without a word.
+//!   [`Crc::of_width`] takes a width and a polynomial as catalogues write it.
 //! - A packet has L bits, 8 for each byte. They are counted from its end: *position* 0 is the lowest bit of its last byte,
 //!   and L - 1 the highest bit of its first. Accepted: n < L ≤ 4,096. The CRC is the last n bits.
 //! - The *remainder* or *syndrome* is what is left when the packet, as a binary polynomial with the *initial value* added at
@@ -30,12 +32,21 @@
 //!
 //! # Which CRC this is
 //!
-//! A [`Crc`] is a generator with an initial and a final value: the register starts at the one, and the other is added to it at
-//! the end (`init` and `xorout` of the catalogues and of the `crc` crate). The highest bit comes first, and nothing is
-//! reflected. [`catalogue`] has those with names, such as [`catalogue::CRC_16_XMODEM`],
-//! [`catalogue::CRC_16_IBM_3740`] ("CCITT-FALSE") and [`catalogue::CRC_16_GENIBUS`], which share the generator [`CCITT`].
-//! CRC-16/KERMIT ("CCITT-TRUE") and CRC-16/IBM-SDLC (X.25) have it too and are reflected: these calls are not for them.
-//! [`Crc::plain`] has both values 0: division by the generator alone.
+//! **Not CRC-32, and nothing reflected**: degrees 3 to 16, with the highest bit first. A [`Crc`] is a generator with an initial
+//! and a final value: the register starts at the one, and the other is added to it at the end (`init` and `xorout` of the
+//! catalogues and of the `crc` crate). [`Crc::plain`] has both values 0: division by the generator alone.
+//!
+//! [`catalogue`] has those with names, and the other names that they go by. Five share the generator [`CCITT`], and "CRC-CCITT"
+//! alone may mean any of them, or one that is reflected:
+//!
+//! - [`catalogue::CRC_16_XMODEM`] starts at 0 (ZMODEM, ACORN, LTE, V-41-MSB);
+//! - [`catalogue::CRC_16_IBM_3740`] starts at FFFFh (CCITT-FALSE, AUTOSAR);
+//! - [`catalogue::CRC_16_SPI_FUJITSU`] starts at 1D0Fh (AUG-CCITT);
+//! - [`catalogue::CRC_16_GENIBUS`] starts at FFFFh, and all bits are inverted at the end (EPC, I-CODE, DARC);
+//! - [`catalogue::CRC_16_GSM`] starts at 0, and all bits are inverted at the end.
+//!
+//! CRC-16/KERMIT ("CCITT-TRUE") and CRC-16/IBM-SDLC (X.25) have that generator too and are reflected, and so are CRC-16/ARC, which
+//! "CRC-16" alone mostly means, and CRC-16/MODBUS: these calls are not for them.
 //!
 //! Make sure of the CRC that sealed the packets. With the right generator and a wrong value all intact packets of one length
 //! leave the same remainder, and where a pattern explains it up to all of them may be repaired, to other data too: of packets
@@ -58,6 +69,11 @@
 //! often. The example `trials` counts all this. So choose the least N that the channel needs, publish it beside the number
 //! of repairs, and hold these for doubtful where many verdicts are [`Verdict::None`].
 //!
+//! *Drop-outs of zeros* are worse still. Where a recording puts zeros in the place of lost bytes, the field may be among them, and a
+//! field of zero asks for no sum: such packets are repaired falsely far more often than noise. A packet of zeros alone is even
+//! [`Verdict::Intact`] by a CRC whose values are 0, such as CRC-16/XMODEM. So prefer a CRC with an initial value, leave packets of
+//! zeros out before they come to a repair, and where the sender always stamps, hold a repair that ends in a field of zero for doubtful.
+//!
 //! # How long it takes
 //!
 //! Each page and each repair verifies both tables, 0.05 ms for degree 16. Beyond that a repair takes time as L^(N-1): with
@@ -69,6 +85,41 @@
 //! ones, or the other way round, the time is that of N - 1 (at N = 1, of verifying the tables); if not, the list is
 //! about twice as long. A call cannot be interrupted, and small pages do not bound its time: a page searches until its
 //! next record or the end of the list.
+//!
+//! Of an intact packet a repair spends nearly all its time on the tables. [`remainder`] and [`sum`] need none, and take 0.2
+//! microseconds for 64 bytes. So take them first, and repair only what is damaged: the answer is the same, and a stream with damage in
+//! one packet of twenty goes some 15 times as fast.
+//!
+//! ```
+//! use rangqoda::{catalogue::CRC_16_IBM_3740 as CRC, make, remainder, sum, Refusal, Tables, Verdict};
+//!
+//! /// The verdict on a packet with the checksum of bytes 0 to 61 at byte 60.
+//! fn verdict(tables: &Tables, packet: &[u8; 64], copy: &mut [u8; 64]) -> Result<Verdict, Refusal> {
+//!     if remainder(CRC, packet)? == 0 && (packet[60..62] == [0, 0] || sum(&packet[..62]) == 0xFFFF) {
+//!         return Ok(Verdict::Intact);
+//!     }
+//!     tables.repair(CRC, 0..62, 60, 2, packet, copy)
+//! }
+//!
+//! let tables = Tables::new(CRC.generator)?;
+//! let (mut packet, mut copy, mut seed) = ([0; 64], [0; 64], 7);
+//! for number in 0..100 {
+//!     seed = make(CRC, seed, 0..62, 60, &mut packet)?;
+//!     if number % 20 == 0 {
+//!         packet[number / 2] ^= 0x10;
+//!     }
+//!     let verdict = verdict(&tables, &packet, &mut copy)?;
+//!     assert_eq!(verdict, tables.repair(CRC, 0..62, 60, 2, &packet, &mut copy)?);
+//!     assert_eq!(verdict == Verdict::Intact, number % 20 != 0);
+//! }
+//! # Ok::<(), rangqoda::Refusal>(())
+//! ```
+//!
+//! # The archive
+//!
+//! `rt staticlib rangqoda` makes the archive that this crate links, in `target/staticlib`. It proves everything anew each time,
+//! also where nothing changed. So make it once, keep a copy in a folder of its own, and name that folder by the variable
+//! `RANGQODA_LIB_DIR` when this crate is built.
 //!
 //! # Example
 //!
@@ -94,802 +145,20 @@
 
 #![warn(missing_docs)]
 
+mod calls;
 pub mod catalogue;
+mod crc;
 #[allow(missing_docs)]
 pub mod ffi;
+mod pattern;
+mod refusal;
+mod tables;
 
-use std::error::Error;
-use std::fmt;
-use std::ops::Range;
+pub use calls::{gather, hand_back, make, remainder, repair, scatter, seal, stamp, sum, NO_CHECKSUM};
+pub use crc::{Crc, CCITT, FIVE};
+pub use pattern::{Mark, Pattern, Verdict, MARK_BYTES, MOST_POSITIONS, RECORD_BYTES, VERDICT_BYTES};
+pub use refusal::Refusal;
+pub use tables::{build_tables, page, Page, Patterns, TableSlices, Tables, NO_POSITION};
 
-/// The generator x^5 + x^4 + x^2 + 1.
-pub const FIVE: u64 = 53;
-
-/// The generator x^16 + x^12 + x^5 + 1.
-pub const CCITT: u64 = 0x11021;
-
-/// The entry of a first-position table where no power of x leaves the remainder.
-pub const NO_POSITION: u16 = 65535;
-
-/// The range of a packet that carries no checksum, accepted with every accepted length: a repair then goes by the CRC alone, and any
-/// number will do for its field. Any other accepted range with start = end says the same. So take care that a range that was computed
-/// is not empty by mistake: neither it nor any field with it is refused.
-///
-/// Without a checksum the estimate for noise is not divided by 32,768. With [`CCITT`] and 16 bytes 193 of 100,000 packets of noise
-/// were repaired at N = 1, and 8,068 at N = 2; and 1 in 2^n is even said to be intact. With four flips, at N = 2, 3,272 of 20,000 were
-/// falsely repaired in 16 bytes (24 of 100,000 with a checksum) and 940 of 20,000 in 64 (288 of 100,000); with three, at N = 1, 740 of
-/// 100,000 in 16 bytes and 1,212 of 10,000 in 512. Take N = 1 there.
-pub const NO_CHECKSUM: Range<usize> = 0..0;
-
-/// The most positions of a pattern.
-pub const MOST_POSITIONS: usize = 4;
-
-/// The length of the longest record, and so of the shortest output that a page accepts.
-pub const RECORD_BYTES: usize = 1 + 2 * MOST_POSITIONS;
-
-/// The length of a mark as the C functions take it.
-pub const MARK_BYTES: usize = RECORD_BYTES;
-
-/// The length of a verdict as the C functions write it.
-pub const VERDICT_BYTES: usize = 9 + RECORD_BYTES;
-
-const MARK_START: u8 = 0xFE;
-const MARK_ENDED: u8 = 0xFF;
-
-/// The numbers that define a CRC. It refuses nothing: the calls judge them.
-///
-/// ```
-/// use rangqoda::{catalogue::CRC_16_XMODEM, Crc, CCITT};
-///
-/// assert_eq!(CRC_16_XMODEM, Crc { generator: 0x11021, init: 0, xorout: 0 });
-/// assert_eq!(CRC_16_XMODEM, Crc::plain(CCITT));
-/// ```
-#[derive(Clone, Copy, Debug, PartialEq, Eq, Hash)]
-pub struct Crc {
-    /// The generator: 2^i stands for x^i.
-    pub generator: u64,
-    /// The initial value, added at a packet's first n bits. Accepted below 2^n.
-    pub init: u64,
-    /// The final value, added at its last n bits. Accepted below 2^n.
-    pub xorout: u64,
-}
-
-impl Crc {
-    /// The CRC of a generator with initial and final values 0.
-    pub const fn plain(generator: u64) -> Crc {
-        Crc { generator, init: 0, xorout: 0 }
-    }
-}
-
-/// Why a call was refused. A call tests the conditions that are named for it, in the order in which they are named, and
-/// gives the first that applies.
-#[derive(Clone, Copy, Debug, PartialEq, Eq, PartialOrd, Ord, Hash)]
-#[repr(u32)]
-pub enum Refusal {
-    /// 1: the generator is even, or its degree is outside 3 to 16.
-    Generator = 1,
-    /// 2: L ≤ n or L > 4,096.
-    Length = 2,
-    /// 3: the limit is 0 or above 4.
-    Limit = 3,
-    /// 4: the syndrome is 2^n or more.
-    Syndrome = 4,
-    /// 5: a table has not 2^n entries.
-    TableLength = 5,
-    /// 6: a table entry is wrong.
-    TableEntry = 6,
-    /// 7: the mark's pattern is not strictly ascending, has a position not below L, or more positions than the limit.
-    Mark = 7,
-    /// 8: the output of a page has less than 9 bytes; that of a repair is not as long as the packet.
-    Output = 8,
-    /// 9: the range ends before its start, or reaches into the CRC.
-    Range = 9,
-    /// 10: the field is not whole in the range, or not an even number of bytes from its start; of a repair, only where the range has
-    /// a byte.
-    Field = 10,
-    /// 11: the initial or the final value is 2^n or more.
-    Values = 11,
-    /// 12: the rows or the columns of a block are outside 1 to 64.
-    BlockShape = 12,
-    /// 13: a block's input or output has not as many bytes as rows times columns.
-    BlockLength = 13,
-}
-
-impl Refusal {
-    /// Every refusal, lowest number first.
-    pub const ALL: [Refusal; 13] = [
-        Refusal::Generator,
-        Refusal::Length,
-        Refusal::Limit,
-        Refusal::Syndrome,
-        Refusal::TableLength,
-        Refusal::TableEntry,
-        Refusal::Mark,
-        Refusal::Output,
-        Refusal::Range,
-        Refusal::Field,
-        Refusal::Values,
-        Refusal::BlockShape,
-        Refusal::BlockLength,
-    ];
-
-    /// The number of the condition, 1 to 13.
-    pub const fn number(self) -> u32 {
-        self as u32
-    }
-}
-
-impl fmt::Display for Refusal {
-    fn fmt(&self, f: &mut fmt::Formatter<'_>) -> fmt::Result {
-        let what = match self {
-            Refusal::Generator => "the generator is even, or its degree is outside 3 to 16",
-            Refusal::Length => "the length is not above the degree, or above 4096 bits",
-            Refusal::Limit => "the error limit is outside 1 to 4",
-            Refusal::Syndrome => "the syndrome does not fit the degree",
-            Refusal::TableLength => "a table has the wrong number of entries",
-            Refusal::TableEntry => "a table entry is wrong",
-            Refusal::Mark => "the mark's pattern is unfit",
-            Refusal::Output => "the output has an unfit length",
-            Refusal::Range => "the range ends before its start or reaches into the CRC",
-            Refusal::Field => "the field is not whole in the range, or not an even number of bytes from its start",
-            Refusal::Values => "the initial or the final value does not fit the degree",
-            Refusal::BlockShape => "the rows or the columns are outside 1 to 64",
-            Refusal::BlockLength => "the input or the output has not as many bytes as rows times columns",
-        };
-        write!(f, "refused {}: {}", self.number(), what)
-    }
-}
-
-impl Error for Refusal {}
-
-/// What a C function's answer says: 0 is accepted.
-#[inline]
-fn judged(number: u32) -> Result<(), Refusal> {
-    match number {
-        0 => Ok(()),
-        1..=13 => Err(Refusal::ALL[number as usize - 1]),
-        _ => unreachable!("the library answered {number}, which names no condition"),
-    }
-}
-
-/// An error pattern: up to four bit positions.
-///
-/// Patterns from a list ascend strictly. One that a caller makes may hold any positions; a [`Mark`] with an unfit one is
-/// refused by the call that gets it. Patterns compare as the list orders them.
-///
-/// ```
-/// use rangqoda::Pattern;
-///
-/// let pattern = Pattern::new(&[3, 8]).unwrap();
-/// assert_eq!(pattern.as_slice(), [3, 8]);
-/// assert!(Pattern::new(&[40]).unwrap() < pattern);
-/// assert!(Pattern::new(&[1, 2, 3, 4, 5]).is_none());
-/// ```
-#[derive(Clone, Copy, Default, PartialEq, Eq, PartialOrd, Ord, Hash)]
-pub struct Pattern {
-    count: u8,
-    /// Zero from `count` on, so that the derived order is the list's.
-    positions: [u16; MOST_POSITIONS],
-}
-
-impl Pattern {
-    /// The pattern without positions.
-    pub const EMPTY: Pattern = Pattern { count: 0, positions: [0; MOST_POSITIONS] };
-
-    /// The pattern of these positions, in this order; `None` for more than four.
-    pub fn new(positions: &[u16]) -> Option<Pattern> {
-        let mut pattern = Pattern { count: u8::try_from(positions.len()).ok()?, ..Pattern::EMPTY };
-        pattern.positions.get_mut(..positions.len())?.copy_from_slice(positions);
-        Some(pattern)
-    }
-
-    /// The positions.
-    pub fn as_slice(&self) -> &[u16] {
-        &self.positions[..usize::from(self.count)]
-    }
-
-    /// How many positions there are.
-    pub fn len(&self) -> usize {
-        usize::from(self.count)
-    }
-
-    /// Whether there are none.
-    pub fn is_empty(&self) -> bool {
-        self.count == 0
-    }
-
-    /// Writes the record: the count, then each position in two bytes, high byte first.
-    fn write(&self, record: &mut [u8; RECORD_BYTES]) {
-        record.fill(0);
-        record[0] = self.count;
-        for (place, position) in record[1..].chunks_exact_mut(2).zip(self.as_slice()) {
-            place.copy_from_slice(&position.to_be_bytes());
-        }
-    }
-
-    /// The pattern whose record the bytes begin with, and the record's length.
-    fn read(bytes: &[u8]) -> (Pattern, usize) {
-        let used = 1 + 2 * usize::from(bytes[0]);
-        let mut pattern = Pattern { count: bytes[0], ..Pattern::EMPTY };
-        for (position, place) in pattern.positions.iter_mut().zip(bytes[1..used].chunks_exact(2)) {
-            *position = u16::from_be_bytes([place[0], place[1]]);
-        }
-        (pattern, used)
-    }
-}
-
-impl AsRef<[u16]> for Pattern {
-    fn as_ref(&self) -> &[u16] {
-        self.as_slice()
-    }
-}
-
-impl fmt::Debug for Pattern {
-    fn fmt(&self, f: &mut fmt::Formatter<'_>) -> fmt::Result {
-        f.debug_set().entries(self.as_slice()).finish()
-    }
-}
-
-/// Where a list is to be continued.
-#[derive(Clone, Copy, Debug, PartialEq, Eq, Hash)]
-pub enum Mark {
-    /// Before the first pattern.
-    Start,
-    /// Behind the last pattern.
-    Ended,
-    /// After this pattern, which need not be a listed one.
-    After(Pattern),
-}
-
-impl Mark {
-    /// The mark as the C functions take it.
-    pub fn to_bytes(self) -> [u8; MARK_BYTES] {
-        let mut bytes = [0; MARK_BYTES];
-        match self {
-            Mark::Start => bytes[0] = MARK_START,
-            Mark::Ended => bytes[0] = MARK_ENDED,
-            Mark::After(pattern) => pattern.write(&mut bytes),
-        }
-        bytes
-    }
-
-    /// The mark that the bytes stand for; `None` where the first of them is none that a mark has.
-    pub fn from_bytes(bytes: &[u8; MARK_BYTES]) -> Option<Mark> {
-        match bytes[0] {
-            MARK_START => Some(Mark::Start),
-            MARK_ENDED => Some(Mark::Ended),
-            count if usize::from(count) <= MOST_POSITIONS => Some(Mark::After(Pattern::read(bytes).0)),
-            _ => None,
-        }
-    }
-}
-
-/// What a repair found.
-#[derive(Clone, Copy, Debug, PartialEq, Eq, Hash)]
-pub enum Verdict {
-    /// The packet passes both checks as it is.
-    Intact,
-    /// Just one listed pattern leads to a packet that passes: this one. The output holds the flipped packet. If more bits
-    /// flipped than the limit, it may be a wrong one: see [what a repair does not tell](crate#what-a-repair-does-not-tell).
-    Repaired(Pattern),
-    /// More than one does.
-    Several {
-        /// How many.
-        count: u64,
-        /// The one of them that stands first in the list. It is no repair: any of them may be what happened, or none.
-        pattern: Pattern,
-    },
-    /// None does.
-    None,
-}
-
-impl Verdict {
-    /// The verdict as the C functions write it.
-    pub fn to_bytes(self) -> [u8; VERDICT_BYTES] {
-        let (kind, count, pattern) = match self {
-            Verdict::Intact => (0, 0, Pattern::EMPTY),
-            Verdict::Repaired(pattern) => (1, 1, pattern),
-            Verdict::Several { count, pattern } => (2, count, pattern),
-            Verdict::None => (3, 0, Pattern::EMPTY),
-        };
-        let mut record = [0; RECORD_BYTES];
-        pattern.write(&mut record);
-        let mut bytes = [0; VERDICT_BYTES];
-        bytes[0] = kind;
-        bytes[1..9].copy_from_slice(&count.to_be_bytes());
-        bytes[9..].copy_from_slice(&record);
-        bytes
-    }
-
-    /// The verdict that the bytes stand for; `None` where the kind or the count of positions is none that a verdict has.
-    pub fn from_bytes(bytes: &[u8; VERDICT_BYTES]) -> Option<Verdict> {
-        if usize::from(bytes[9]) > MOST_POSITIONS {
-            return None;
-        }
-        let count = u64::from_be_bytes(bytes[1..9].try_into().expect("eight bytes"));
-        let (pattern, _) = Pattern::read(&bytes[9..]);
-        match bytes[0] {
-            0 => Some(Verdict::Intact),
-            1 => Some(Verdict::Repaired(pattern)),
-            2 => Some(Verdict::Several { count, pattern }),
-            3 => Some(Verdict::None),
-            _ => None,
-        }
-    }
-}
-
-/// The remainder of a packet. Refused by 1, 2, 11.
-///
-/// ```
-/// use rangqoda::{remainder, Crc, Refusal, FIVE};
-///
-/// assert_eq!(remainder(Crc::plain(FIVE), &[0xFF, 0xFF, 0x05]), Ok(0));
-/// assert_eq!(remainder(Crc { generator: FIVE, init: 31, xorout: 31 }, &[0x00]), Ok(6));
-/// assert_eq!(remainder(Crc { generator: FIVE, init: 32, xorout: 0 }, &[0x00]), Err(Refusal::Values));
-/// ```
-// inlined with `judged`: a short packet's remainder takes little longer than a call
-#[inline]
-pub fn remainder(crc: Crc, packet: &[u8]) -> Result<u64, Refusal> {
-    let mut remainder = 0;
-    // SAFETY: a slice's pointer is good for its length, and the lent parts are borrowed apart from each other.
-    judged(unsafe {
-        ffi::rangqoda_remainder(crc.generator, crc.init, crc.xorout, packet.as_ptr(), packet.len(), &mut remainder)
-    })?;
-    Ok(remainder)
-}
-
-/// Seals a packet: gives its CRC, the last n bits, the one value for which the remainder is 0. Refused by 1, 2, 11.
-///
-/// ```
-/// use rangqoda::{catalogue::CRC_16_GENIBUS, remainder, seal};
-///
-/// let mut packet = *b"screen time\0\0";
-/// seal(CRC_16_GENIBUS, &mut packet)?;
-/// assert_eq!(remainder(CRC_16_GENIBUS, &packet), Ok(0));
-/// # Ok::<(), rangqoda::Refusal>(())
-/// ```
-pub fn seal(crc: Crc, packet: &mut [u8]) -> Result<(), Refusal> {
-    // SAFETY: as in `remainder`.
-    judged(unsafe { ffi::rangqoda_seal(crc.generator, crc.init, crc.xorout, packet.as_mut_ptr(), packet.len()) })
-}
-
-/// The sum of RFC 1071: bytes as 16-bit numbers, high byte first, with a zero behind an odd one, and carries added back in.
-///
-/// ```
-/// assert_eq!(rangqoda::sum(&[0x00, 0x01, 0xF2, 0x03, 0xF4, 0xF5, 0xF6, 0xF7]), 0xDDF2);
-/// ```
-pub fn sum(bytes: &[u8]) -> u16 {
-    // SAFETY: as in `remainder`.
-    unsafe { ffi::rangqoda_sum(bytes.as_ptr(), bytes.len()) }
-}
-
-/// Stamps a packet, so that the sum of the range is FFFFh: the two bytes at `field`, an index into the packet, become what the sum of the
-/// range, taken with these two as zero, lacks to FFFFh. Where it lacks nothing they become FFFFh, since 0000h would say that no checksum
-/// was made. Refused by 1, 2, 9, 10, and so by 10 for an accepted range with start = end, which has no field.
-///
-/// ```
-/// use rangqoda::{stamp, sum, Refusal, CCITT};
-///
-/// let mut packet = [7, 7, 0, 0, 7, 0, 0];
-/// stamp(CCITT, 0..5, 2, &mut packet)?;
-/// assert_eq!(sum(&packet[..5]), 0xFFFF);
-/// assert_eq!(stamp(CCITT, 0..5, 1, &mut packet), Err(Refusal::Field));
-/// # Ok::<(), Refusal>(())
-/// ```
-pub fn stamp(generator: u64, range: Range<usize>, field: usize, packet: &mut [u8]) -> Result<(), Refusal> {
-    // SAFETY: as in `remainder`.
-    judged(unsafe { ffi::rangqoda_stamp(generator, range.start, range.end, field, packet.as_mut_ptr(), packet.len()) })
-}
-
-/// Makes a packet from a seed: fills it, stamps the range at `field`, and seals it. The same numbers make the same packet,
-/// whatever it held before. Refused by 1, 2, 11, 9, 10, in this order, and so by 10 for an accepted range with start = end, which
-/// has no field.
-///
-/// The bytes come from a 32-bit state, the seed to begin with. Each step goes from a state s to (1664525 s + 1013904223) mod 2^32,
-/// and the top eight bits of that are the next byte, from the first one on. Returned is the state after as many steps as the
-/// packet has bytes. A repair of the packet by the same CRC, range and field says [`Verdict::Intact`].
-///
-/// For more packets pass the state as the next seed. Seeds that follow each other are a poor choice for trials: most give the
-/// same first byte as their neighbours, and later bytes at fixed distances from theirs, give or take 1.
-///
-/// ```
-/// use rangqoda::{catalogue::CRC_16_XMODEM, make};
-///
-/// // A footnote: "CRC-16/XMODEM, 16 bytes, checksum over bytes 0 to 13 at byte 12, seed 7".
-/// let mut packet = [0; 16];
-/// let state = make(CRC_16_XMODEM, 7, 0..14, 12, &mut packet)?;
-/// assert_eq!(packet, *b"\x3D\xE9\x9C\xED\x0C\xDB\x5C\x0D\x11\xFB\xF9\x88\xB0\xBC\x17\x21");
-/// assert_eq!(state, 0xC704D217);
-/// # Ok::<(), rangqoda::Refusal>(())
-/// ```
-pub fn make(crc: Crc, seed: u32, range: Range<usize>, field: usize, packet: &mut [u8]) -> Result<u32, Refusal> {
-    let mut state = 0;
-    // SAFETY: as in `remainder`.
-    judged(unsafe {
-        ffi::rangqoda_make(
-            crc.generator,
-            crc.init,
-            crc.xorout,
-            seed,
-            range.start,
-            range.end,
-            field,
-            packet.as_mut_ptr(),
-            packet.len(),
-            &mut state,
-        )
-    })?;
-    Ok(state)
-}
-
-/// Scatters bytes before storage: they are written into a block by rows and read by columns, so that `output[j * rows + i]` is
-/// `input[i * columns + j]`. Refused by 12, 13.
-///
-/// Of any run of adjacent bytes of the output, at most as many as there are rows, no two come from one row. So where such a run is
-/// lost, and as many other bytes stand in its place, [`gather`] gives back every row with at most one byte that differs. That byte
-/// is not restored: up to eight of its bits may be wrong, and a repair explains at most four.
-///
-/// ```
-/// use rangqoda::{gather, scatter};
-///
-/// // Three rows of four bytes; then three adjacent bytes are lost.
-/// let mut stored = [0; 12];
-/// scatter(3, 4, b"ROW1row2Row3", &mut stored)?;
-/// assert_eq!(stored, *b"RrROooWww123");
-/// stored[4..7].fill(b'?');
-///
-/// let mut restored = [0; 12];
-/// gather(3, 4, &stored, &mut restored)?;
-/// assert_eq!(restored, *b"RO?1r?w2R?w3");
-/// # Ok::<(), rangqoda::Refusal>(())
-/// ```
-pub fn scatter(rows: usize, columns: usize, input: &[u8], output: &mut [u8]) -> Result<(), Refusal> {
-    // SAFETY: as in `remainder`.
-    judged(unsafe {
-        ffi::rangqoda_scatter(rows, columns, input.as_ptr(), input.len(), output.as_mut_ptr(), output.len())
-    })
-}
-
-/// The way back from [`scatter`], with the same rows and columns: bytes are written by columns and read by rows, so that
-/// `output[i * columns + j]` is `input[j * rows + i]`. Each of the two undoes the other. Refused by 12, 13.
-///
-/// ```
-/// use rangqoda::{gather, Refusal};
-///
-/// let mut restored = [0; 6];
-/// gather(2, 3, b"adbecf", &mut restored)?;
-/// assert_eq!(restored, *b"abcdef");
-/// assert_eq!(gather(2, 3, b"adbec", &mut restored), Err(Refusal::BlockLength));
-/// # Ok::<(), Refusal>(())
-/// ```
-pub fn gather(rows: usize, columns: usize, input: &[u8], output: &mut [u8]) -> Result<(), Refusal> {
-    // SAFETY: as in `remainder`.
-    judged(unsafe {
-        ffi::rangqoda_gather(rows, columns, input.as_ptr(), input.len(), output.as_mut_ptr(), output.len())
-    })
-}
-
-/// Fills the two lent tables of a generator, each of exactly 2^n entries, and returns the period: the smallest positive c
-/// such that x^c leaves 1. Refused by 1, 5.
-///
-/// Entry s of `step` is that t below 2^n whose product with x leaves s. Entry s of `first` is the smallest p such that x^p
-/// leaves s, or [`NO_POSITION`] where no power does.
-///
-/// ```
-/// use rangqoda::{build_tables, FIVE, NO_POSITION};
-///
-/// let (mut step, mut first) = ([0; 32], [0; 32]);
-/// assert_eq!(build_tables(FIVE, &mut step, &mut first), Ok(15));
-/// assert_eq!((step[1], first[26], first[3]), (26, 14, NO_POSITION));
-/// ```
-pub fn build_tables(generator: u64, step: &mut [u16], first: &mut [u16]) -> Result<u64, Refusal> {
-    let mut period = 0;
-    // SAFETY: as in `remainder`.
-    judged(unsafe {
-        ffi::rangqoda_tables(generator, step.as_mut_ptr(), step.len(), first.as_mut_ptr(), first.len(), &mut period)
-    })?;
-    Ok(period)
-}
-
-/// The two tables of a generator, lent to a call. The call verifies every entry.
-#[derive(Clone, Copy, Debug)]
-pub struct TableSlices<'a> {
-    /// Entry s is that t below 2^n whose product with x leaves s.
-    pub step: &'a [u16],
-    /// Entry s is the smallest p such that x^p leaves s, or [`NO_POSITION`] where no power does.
-    pub first: &'a [u16],
-}
-
-/// What a page holds and where the list goes on.
-#[derive(Clone, Copy, Debug, PartialEq, Eq, Hash)]
-pub struct Page {
-    /// How many bytes of the output the records take.
-    pub used: usize,
-    /// How many records there are.
-    pub written: u64,
-    /// The mark for the next page: ended if no listed pattern is left to follow.
-    pub next: Mark,
-}
-
-impl Page {
-    /// The patterns of the page, from the output that it was written to.
-    ///
-    /// # Panics
-    ///
-    /// Where `output` has fewer bytes than the page used, or other bytes than the page wrote.
-    pub fn patterns<'a>(&self, output: &'a [u8]) -> impl Iterator<Item = Pattern> + 'a {
-        let mut rest = &output[..self.used];
-        std::iter::from_fn(move || {
-            if rest.is_empty() {
-                return None;
-            }
-            let (pattern, used) = Pattern::read(rest);
-            rest = &rest[used..];
-            Some(pattern)
-        })
-    }
-}
-
-/// Writes the records of the listed patterns that follow the mark, up to the first that does not fit. Bytes beyond those
-/// used stay. `length` is in bits. Refused by 1 to 8.
-///
-/// A record is one byte, the count of positions, then the positions ascending, in two bytes each, high byte first.
-///
-/// ```
-/// use rangqoda::{page, Mark, Tables, FIVE};
-///
-/// let tables = Tables::new(FIVE)?;
-/// let mut output = [0; 16];
-/// let found = page(FIVE, 8, 2, 3, tables.as_slices(), Mark::Start, &mut output)?;
-/// assert_eq!((found.used, found.written, found.next), (10, 2, Mark::Ended));
-/// assert_eq!(output[..10], [2, 0, 0, 0, 1, 2, 0, 3, 0, 7]);
-/// # Ok::<(), rangqoda::Refusal>(())
-/// ```
-pub fn page(
-    generator: u64,
-    length: usize,
-    limit: usize,
-    syndrome: u64,
-    tables: TableSlices<'_>,
-    mark: Mark,
-    output: &mut [u8],
-) -> Result<Page, Refusal> {
-    let mut bytes = mark.to_bytes();
-    let mut used = 0;
-    let mut written = 0;
-    // SAFETY: as in `remainder`.
-    judged(unsafe {
-        ffi::rangqoda_page(
-            generator,
-            length,
-            limit,
-            syndrome,
-            tables.step.as_ptr(),
-            tables.step.len(),
-            tables.first.as_ptr(),
-            tables.first.len(),
-            bytes.as_mut_ptr(),
-            bytes.len(),
-            output.as_mut_ptr(),
-            output.len(),
-            &mut used,
-            &mut written,
-        )
-    })?;
-    let next = Mark::from_bytes(&bytes).expect("the library writes a mark");
-    Ok(Page { used, written, next })
-}
-
-/// Repairs a packet whose range carries a checksum at `field`, or which carries none ([`NO_CHECKSUM`]; then `field` may be any
-/// number). `output` is as long as the packet; it changes only for [`Verdict::Repaired`], when it holds the flipped packet. Refused by
-/// 1, 2, 11, 3, 5, 6, 8, 9, 10, in this order.
-///
-/// A field of 0000h says that no checksum was made (RFC 768). A packet with such a field passes the second check without a sum, as it was
-/// received or as a pattern's flips make it. Of packets sent so the CRC alone strikes wrong patterns that leave the field zero: take N = 1
-/// for them.
-///
-/// ```
-/// use rangqoda::{repair, Crc, Pattern, Tables, Verdict, FIVE, NO_CHECKSUM};
-///
-/// let tables = Tables::new(FIVE)?;
-/// let mut output = [0; 3];
-/// let verdict = repair(Crc::plain(FIVE), 0..2, 0, 1, tables.as_slices(), &[0x7F, 0xFF, 0x05], &mut output)?;
-/// assert_eq!(verdict, Verdict::Repaired(Pattern::new(&[23]).unwrap()));
-/// assert_eq!(output, [0xFF, 0xFF, 0x05]);
-///
-/// // Of these two patterns the checksum struck one; without a checksum both are left.
-/// let verdict = repair(Crc::plain(FIVE), NO_CHECKSUM, 0, 1, tables.as_slices(), &[0x7F, 0xFF, 0x05], &mut output)?;
-/// assert_eq!(verdict, Verdict::Several { count: 2, pattern: Pattern::new(&[8]).unwrap() });
-/// # Ok::<(), rangqoda::Refusal>(())
-/// ```
-pub fn repair(
-    crc: Crc,
-    range: Range<usize>,
-    field: usize,
-    limit: usize,
-    tables: TableSlices<'_>,
-    packet: &[u8],
-    output: &mut [u8],
-) -> Result<Verdict, Refusal> {
-    let mut verdict = [0; VERDICT_BYTES];
-    // SAFETY: as in `remainder`.
-    judged(unsafe {
-        ffi::rangqoda_repair(
-            crc.generator,
-            crc.init,
-            crc.xorout,
-            range.start,
-            range.end,
-            field,
-            limit,
-            tables.step.as_ptr(),
-            tables.step.len(),
-            tables.first.as_ptr(),
-            tables.first.len(),
-            packet.as_ptr(),
-            packet.len(),
-            output.as_mut_ptr(),
-            output.len(),
-            verdict.as_mut_ptr(),
-            verdict.len(),
-        )
-    })?;
-    Ok(Verdict::from_bytes(&verdict).expect("the library writes a verdict"))
-}
-
-/// The packet to publish from after a repair: the received bytes themselves after [`Verdict::Intact`], the copy (the
-/// repair's output) after [`Verdict::Repaired`], and otherwise a part of the received bytes with nothing in it.
-///
-/// ```
-/// use rangqoda::{hand_back, Verdict};
-///
-/// assert!(hand_back(b"received", b"a copy..", &Verdict::None).is_empty());
-/// ```
-pub fn hand_back<'a>(received: &'a [u8], copy: &'a [u8], verdict: &Verdict) -> &'a [u8] {
-    let bytes = verdict.to_bytes();
-    // SAFETY: as in `remainder`.
-    match unsafe { ffi::rangqoda_publish(bytes.as_ptr(), bytes.len()) } {
-        0 => received,
-        1 => copy,
-        _ => &received[..0],
-    }
-}
-
-/// The two tables of a generator and its period, built by the library and kept for many calls.
-#[derive(Clone, Debug, PartialEq, Eq)]
-pub struct Tables {
-    generator: u64,
-    step: Vec<u16>,
-    first: Vec<u16>,
-    period: u64,
-}
-
-impl Tables {
-    /// Builds the tables. Refused by 1.
-    pub fn new(generator: u64) -> Result<Tables, Refusal> {
-        // An unfit generator gets no entries: the library judges it before it looks at the tables.
-        let entries = match generator.checked_ilog2() {
-            Some(degree) if degree <= 16 => 1 << degree,
-            _ => 0,
-        };
-        let (mut step, mut first) = (vec![0; entries], vec![0; entries]);
-        let period = build_tables(generator, &mut step, &mut first)?;
-        Ok(Tables { generator, step, first, period })
-    }
-
-    /// The generator that the tables belong to.
-    pub fn generator(&self) -> u64 {
-        self.generator
-    }
-
-    /// The smallest positive c such that x^c leaves 1.
-    pub fn period(&self) -> u64 {
-        self.period
-    }
-
-    /// Both tables, to be lent.
-    pub fn as_slices(&self) -> TableSlices<'_> {
-        TableSlices { step: &self.step, first: &self.first }
-    }
-
-    /// [`page`] with these tables and their generator.
-    pub fn page(
-        &self,
-        length: usize,
-        limit: usize,
-        syndrome: u64,
-        mark: Mark,
-        output: &mut [u8],
-    ) -> Result<Page, Refusal> {
-        page(self.generator, length, limit, syndrome, self.as_slices(), mark, output)
-    }
-
-    /// [`repair`] with these tables. They have to be those of the CRC's generator: others are refused by 5 or 6.
-    pub fn repair(
-        &self,
-        crc: Crc,
-        range: Range<usize>,
-        field: usize,
-        limit: usize,
-        packet: &[u8],
-        output: &mut [u8],
-    ) -> Result<Verdict, Refusal> {
-        repair(crc, range, field, limit, self.as_slices(), packet, output)
-    }
-
-    /// Every pattern of a list, in its order. Refused by 2, 3, 4.
-    ///
-    /// ```
-    /// use rangqoda::{Tables, FIVE};
-    ///
-    /// let tables = Tables::new(FIVE)?;
-    /// let mut found = Vec::new();
-    /// for pattern in tables.patterns(9, 2, 30)? {
-    ///     found.push(pattern.as_slice().to_vec());
-    /// }
-    /// assert_eq!(found, [[0, 6], [3, 8], [5, 7]]);
-    /// # Ok::<(), rangqoda::Refusal>(())
-    /// ```
-    pub fn patterns(&self, length: usize, limit: usize, syndrome: u64) -> Result<Patterns<'_>, Refusal> {
-        let mut patterns = Patterns {
-            tables: self,
-            length,
-            limit,
-            syndrome,
-            output: vec![0; SHORT_PAGE],
-            used: 0,
-            read: 0,
-            next: Mark::Start,
-        };
-        patterns.turn()?;
-        Ok(patterns)
-    }
-}
-
-/// The bytes of an iterator's first page and of its later ones: each page verifies the tables anew, so a long list is read
-/// in long pages, and a short one takes little memory.
-const SHORT_PAGE: usize = 1 << 12;
-const LONG_PAGE: usize = 1 << 20;
-
-/// The patterns of a list, page after page. See [`Tables::patterns`].
-#[derive(Clone, Debug)]
-pub struct Patterns<'a> {
-    tables: &'a Tables,
-    length: usize,
-    limit: usize,
-    syndrome: u64,
-    output: Vec<u8>,
-    used: usize,
-    read: usize,
-    next: Mark,
-}
-
-impl Patterns<'_> {
-    /// Takes the next page into the output.
-    fn turn(&mut self) -> Result<(), Refusal> {
-        let page = self.tables.page(self.length, self.limit, self.syndrome, self.next, &mut self.output)?;
-        self.used = page.used;
-        self.read = 0;
-        self.next = page.next;
-        Ok(())
-    }
-}
-
-impl Iterator for Patterns<'_> {
-    type Item = Pattern;
-
-    fn next(&mut self) -> Option<Pattern> {
-        if self.read == self.used {
-            if self.next == Mark::Ended {
-                return None;
-            }
-            self.output.resize(LONG_PAGE, 0);
-            self.turn().expect("the first page was accepted, and its mark is the library's");
-        }
-        let (pattern, used) = Pattern::read(&self.output[self.read..]);
-        self.read += used;
-        Some(pattern)
-    }
-}
-
-impl std::iter::FusedIterator for Patterns<'_> {}
+/// The version of this crate, which is that of the header and of the changes for callers: see `CHANGELOG.md`.
+pub const VERSION: &str = env!("CARGO_PKG_VERSION");

@@ -1,6 +1,8 @@
 //! Values worked by hand, published elsewhere or computed by other code: the rows of the rules' own table, the traps that they
 //! name, the check values of the catalogue of parametrised CRC algorithms, and packets made by `tests/maker_vectors.py`.
 
+mod reference;
+
 use rangqoda::{
     catalogue, gather, hand_back, make, page, remainder, repair, scatter, seal, stamp, sum, Crc, Mark, Pattern,
     Refusal, TableSlices, Tables, Verdict, CCITT, FIVE, NO_CHECKSUM, NO_POSITION,
@@ -21,7 +23,7 @@ fn pattern(positions: &[u16]) -> Pattern {
 /// A packet from the digits of its bits. Zero bits put before them change no remainder.
 fn bits(digits: &str) -> Vec<u8> {
     let number = u64::from_str_radix(digits, 2).unwrap();
-    number.to_be_bytes()[8 - digits.len().div_ceil(8)..].to_vec()
+    number.to_be_bytes()[8 - (digits.len() + 7) / 8..].to_vec()
 }
 
 // ---- the rules' table
@@ -318,7 +320,7 @@ fn no_pair_comes_twice_and_none_has_a_position_twice() {
         for syndrome in 0..8 {
             let found = list(generator, length, limit, syndrome);
             assert!(found.iter().all(|pattern| pattern.windows(2).all(|pair| pair[0] < pair[1])));
-            assert!(found.windows(2).all(|two| (two[0].len(), &two[0]) < (two[1].len(), &two[1])));
+            assert!(found.windows(2).all(|two| reference::order(&two[0], &two[1]).is_lt()));
         }
     }
 }
@@ -446,7 +448,7 @@ fn framed(width: u32, poly: u64, init: u64, refin: bool, xorout: u64) -> (Crc, V
     for &byte in b"123456789" {
         message = message << 8 | u128::from(if refin { byte.reverse_bits() } else { byte });
     }
-    let len = (72 + width as usize).div_ceil(8);
+    let len = (72 + width as usize + 7) / 8;
     let packet = (message << width).to_be_bytes()[16 - len..].to_vec();
     let generator = 1 << width | poly;
     (Crc { generator, init: undone(init, 8 * len as u32 - 72 - width, generator), xorout }, packet)
@@ -479,6 +481,84 @@ fn the_names_stand_for_the_catalogues_crcs() {
         assert_eq!((*name, *crc), (called, Crc { generator: 1 << width | poly, init, xorout }));
     }
     assert_eq!(covered.next(), None);
+}
+
+/// The catalogue's other names, with the names above that they stand for.
+const OTHER_NAMES: [(&str, &str); 25] = [
+    ("CRC-5/EPC", "CRC-5/EPC-C1G2"),
+    ("CRC-7", "CRC-7/MMC"),
+    ("CRC-8", "CRC-8/SMBUS"),
+    ("CRC-8/ITU", "CRC-8/I-432-1"),
+    ("CRC-10", "CRC-10/ATM"),
+    ("CRC-10/I-610", "CRC-10/ATM"),
+    ("CRC-11", "CRC-11/FLEXRAY"),
+    ("X-CRC-12", "CRC-12/DECT"),
+    ("CRC-15", "CRC-15/CAN"),
+    ("R-CRC-16", "CRC-16/DECT-R"),
+    ("X-CRC-16", "CRC-16/DECT-X"),
+    ("CRC-16/DARC", "CRC-16/GENIBUS"),
+    ("CRC-16/EPC", "CRC-16/GENIBUS"),
+    ("CRC-16/EPC-C1G2", "CRC-16/GENIBUS"),
+    ("CRC-16/I-CODE", "CRC-16/GENIBUS"),
+    ("CRC-16/AUTOSAR", "CRC-16/IBM-3740"),
+    ("CRC-16/CCITT-FALSE", "CRC-16/IBM-3740"),
+    ("CRC-16/IEC-61158-2", "CRC-16/PROFIBUS"),
+    ("CRC-16/AUG-CCITT", "CRC-16/SPI-FUJITSU"),
+    ("CRC-16/BUYPASS", "CRC-16/UMTS"),
+    ("CRC-16/VERIFONE", "CRC-16/UMTS"),
+    ("CRC-16/ACORN", "CRC-16/XMODEM"),
+    ("CRC-16/LTE", "CRC-16/XMODEM"),
+    ("CRC-16/V-41-MSB", "CRC-16/XMODEM"),
+    ("ZMODEM", "CRC-16/XMODEM"),
+];
+
+#[test]
+fn the_other_names_stand_for_the_same_crcs() {
+    let expected = OTHER_NAMES.map(|(other, name)| {
+        let &(_, crc) = catalogue::ALL.iter().find(|(called, _)| *called == name).unwrap();
+        (other, crc)
+    });
+    assert_eq!(catalogue::ALIASES, expected);
+    assert_eq!(catalogue::CRC_16_CCITT_FALSE, Crc { generator: CCITT, init: 0xFFFF, xorout: 0 });
+    assert_eq!(catalogue::CRC_16_AUG_CCITT, Crc { generator: CCITT, init: 0x1D0F, xorout: 0 });
+}
+
+/// Every row of the catalogue by its width and its polynomial without the top bit, and each number at the edge of what fits.
+#[test]
+fn crcs_by_width_and_polynomial() {
+    for (name, width, poly, init, _, _, xorout, _) in CATALOGUE {
+        let crc = Crc { generator: 1 << width | poly, init, xorout };
+        assert_eq!(Crc::of_width(width, poly, init, xorout), Some(crc), "{name}");
+        assert_eq!(Crc::of_width(width, crc.generator, init, xorout), None, "{name}");
+    }
+    for width in (0..70).chain([u32::MAX]) {
+        let fits = (3..=16).contains(&width);
+        assert_eq!(Crc::of_width(width, 1, 0, 0).is_some(), fits, "{width}");
+        if fits {
+            let most = (1 << width) - 1;
+            let crc = Crc { generator: most << 1 | 1, init: most, xorout: most };
+            assert_eq!(Crc::of_width(width, most, most, most), Some(crc));
+            assert_eq!(Crc::of_width(width, most - 1, 0, 0), None, "even");
+            for wide in [most + 1, most + 2, 1 << 32 | 1, u64::MAX] {
+                assert_eq!(Crc::of_width(width, wide, 0, 0), None);
+                assert_eq!(Crc::of_width(width, 1, wide, 0), None);
+                assert_eq!(Crc::of_width(width, 1, 0, wide), None);
+            }
+        }
+    }
+}
+
+/// What the constructor refuses to do: a polynomial without its top bit is accepted as a generator, and is another one.
+#[test]
+fn a_polynomial_without_its_top_bit_is_another_generator() {
+    for (polynomial, degree) in [(0x1021, 12), (0x8005, 15)] {
+        let right = Crc::of_width(16, polynomial, 0, 0).unwrap();
+        let mut packets = [*b"123456789\0\0"; 2];
+        seal(right, &mut packets[0]).unwrap();
+        seal(Crc::plain(polynomial), &mut packets[1]).unwrap();
+        assert_ne!(packets[0], packets[1]);
+        assert_eq!(Tables::new(polynomial).unwrap().as_slices().step.len(), 1 << degree);
+    }
 }
 
 #[test]

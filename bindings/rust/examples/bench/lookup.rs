@@ -8,6 +8,7 @@
 //! packet's length), and counts are taken from the smallest up, so that the patterns come in the library's order. Its
 //! tables are trusted, not verified.
 
+use rangqoda::MOST_POSITIONS;
 use std::ops::Range;
 
 const NONE: u16 = 65535;
@@ -28,7 +29,7 @@ pub struct Lookup {
 
 impl Lookup {
     pub fn new(generator: u32) -> Lookup {
-        let degree = generator.ilog2();
+        let degree = 31 - generator.leading_zeros();
         let mut rows: Vec<Row> = (0..1 << degree)
             .map(|s: u32| {
                 let cancelled = (s << 1 ^ 1 ^ generator) >> 1;
@@ -69,7 +70,7 @@ impl Lookup {
         found: &mut impl FnMut(&[u16]),
     ) {
         for count in counts {
-            let mut positions = [0; 4];
+            let mut positions = [0; MOST_POSITIONS];
             match count {
                 0 if syndrome == 0 => found(&[]),
                 0 => (),
@@ -198,7 +199,7 @@ pub struct Found {
     pub intact: bool,
     pub passing: u64,
     pub count: usize,
-    pub positions: [u16; 4],
+    pub positions: [u16; MOST_POSITIONS],
 }
 
 /// A reader built on the method.
@@ -237,7 +238,7 @@ impl Reader {
     ) -> Found {
         let syndrome = self.crc.remainder(packet);
         let sent = total(&packet[range.clone()]);
-        let mut found = Found { intact: false, passing: 0, count: 0, positions: [0; 4] };
+        let mut found = Found { intact: false, passing: 0, count: 0, positions: [0; MOST_POSITIONS] };
         let held = [packet[field], packet[field + 1]];
         if syndrome == 0 && (summing == Summing::Nothing || held == [0, 0] || passes(sent)) {
             found.intact = true;

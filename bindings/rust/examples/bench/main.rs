@@ -7,10 +7,19 @@ mod lookup;
 use lookup::{Found, Lookup, Reader, Summing, TableCrc};
 use rangqoda::{
     catalogue::CRC_16_XMODEM as CRC, remainder, seal, stamp, Mark, Pattern, Tables, Verdict, CCITT, FIVE, NO_CHECKSUM,
+    RECORD_BYTES,
 };
-use std::hint::black_box;
+use std::arch::asm;
 use std::ops::Range;
 use std::time::{Duration, Instant};
+
+/// The value, from memory that the compiler must suppose to have been read and written. (`std::hint::black_box` is of Rust 1.66.)
+#[inline(always)]
+fn black_box<T>(mut value: T) -> T {
+    // SAFETY: no instruction is made of it.
+    unsafe { asm!("/* {} */", in(reg) &mut value, options(nostack, preserves_flags)) };
+    value
+}
 
 struct Random(u64);
 
@@ -71,10 +80,10 @@ fn share(part: Duration, whole: Duration) -> f64 {
 fn verifying(tables: &Tables) -> Duration {
     let times = race(
         30,
-        &mut [0; 9],
+        &mut [0; RECORD_BYTES],
         |_| (),
         &mut [&mut |output| {
-            black_box(tables.page(17, 1, 1, Mark::Ended, output).unwrap());
+            let _ = black_box(tables.page(17, 1, 1, Mark::Ended, output).unwrap());
         }],
     );
     times[0]
@@ -126,7 +135,7 @@ fn lists(random: &mut Random, tables: &Tables, lookup: &Lookup, verifying: Durat
         [(4096, 2, pair, 20), (4096, 3, triple, 7), (1024, 3, three, 7), (1024, 4, three, 7), (1024, 4, four, 3)]
     {
         let patterns = tables.patterns(length, limit, syndrome).unwrap().count();
-        let bytes = 9 * patterns.max(1);
+        let bytes = RECORD_BYTES * patterns.max(1);
 
         struct State {
             output: Vec<u8>,
@@ -193,30 +202,32 @@ fn resumed(random: &mut Random, tables: &Tables, lookup: &Lookup, verifying: Dur
     println!("ones  mark           library  verifying tables");
     for (positions, mark) in [(4, &[0, 1, 2][..]), (3, &[0, 1, 2, 3])] {
         let syndrome = some_syndrome(random, positions, 1024);
-        let after = Mark::After(Pattern::new(mark).unwrap());
+        let mark = Pattern::new(mark).unwrap();
+        let after = Mark::After(mark);
 
         // the first of the method's patterns that follows the mark, if there is one
         let mut next = None;
-        lookup.patterns(syndrome as u32, 1024, mark.len()..=4, &mut |pattern| {
-            if next.is_none() && (pattern.len(), pattern) > (mark.len(), mark) {
-                next = Pattern::new(pattern);
+        lookup.patterns(syndrome as u32, 1024, 0..=4, &mut |positions| {
+            let pattern = Pattern::new(positions).unwrap();
+            if pattern > mark && next.map_or(true, |earliest| pattern < earliest) {
+                next = Some(pattern);
             }
         });
-        let page = tables.page(1024, 4, syndrome, after, &mut [0; 9]).unwrap();
+        let page = tables.page(1024, 4, syndrome, after, &mut [0; RECORD_BYTES]).unwrap();
         assert_eq!(page.next, next.map_or(Mark::Ended, Mark::After));
 
         let times = race(
             7,
-            &mut [0; 9],
+            &mut [0; RECORD_BYTES],
             |_| (),
             &mut [&mut |output| {
-                black_box(tables.page(1024, 4, syndrome, after, output).unwrap());
+                let _ = black_box(tables.page(1024, 4, syndrome, after, output).unwrap());
             }],
         );
         println!(
             "{:>4}  {:12}  {:8.1}  {:15.1}%",
             parity(syndrome),
-            format!("{mark:?}"),
+            format!("{:?}", mark.as_slice()),
             micros(times[0]),
             share(verifying, times[0])
         );
@@ -304,7 +315,7 @@ fn repairs(random: &mut Random, tables: &Tables, reader: &Reader, verifying: Dur
             compare_repairs(tables, reader, range.clone(), field, limit, packet, Summing::Corrected);
         }
         let library = |packet: &[u8], output: &mut [u8]| {
-            black_box(tables.repair(CRC, range.clone(), field, limit, packet, output).unwrap());
+            let _ = black_box(tables.repair(CRC, range.clone(), field, limit, packet, output).unwrap());
         };
         let anew = |packet: &[u8], output: &mut [u8]| {
             black_box(reader.repair(range.clone(), field, limit, packet, output, Summing::Anew));
@@ -337,10 +348,10 @@ fn unchecked(random: &mut Random, tables: &Tables, reader: &Reader) {
             compare_repairs(tables, reader, NO_CHECKSUM, 0, limit, packet, Summing::Nothing);
         }
         let library = |packet: &[u8], output: &mut [u8]| {
-            black_box(tables.repair(CRC, NO_CHECKSUM, 0, limit, packet, output).unwrap());
+            let _ = black_box(tables.repair(CRC, NO_CHECKSUM, 0, limit, packet, output).unwrap());
         };
         let weighing = |packet: &[u8], output: &mut [u8]| {
-            black_box(tables.repair(CRC, 0..len - 2, len - 4, limit, packet, output).unwrap());
+            let _ = black_box(tables.repair(CRC, 0..len - 2, len - 4, limit, packet, output).unwrap());
         };
         let method = |packet: &[u8], output: &mut [u8]| {
             black_box(reader.repair(NO_CHECKSUM, 0, limit, packet, output, Summing::Nothing));

@@ -65,7 +65,7 @@ impl Random {
 
     /// The generator with initial and final values: both 0 as often as not, and now and then all ones.
     pub fn values(&mut self, generator: u64) -> Crc {
-        let bound = 1 << generator.max(1).ilog2();
+        let bound = top_bit(generator.max(1));
         let mut value = || match self.below(6) {
             0..=2 => 0,
             3 => bound - 1,
@@ -118,9 +118,14 @@ pub const UNFIT_GENERATORS: [u64; 16] = [
     u64::MAX - 1,
 ];
 
+/// 2^n, where n is the degree.
+fn top_bit(generator: u64) -> u64 {
+    1 << (63 - generator.leading_zeros())
+}
+
 /// The CRC with one of its values, or both, not below 2^n.
 pub fn unfit_values(random: &mut Random, crc: Crc) -> Crc {
-    let bound = 1 << crc.generator.ilog2();
+    let bound = top_bit(crc.generator);
     let mut unfit = || random.pick(&[bound, bound | 1, bound | bound << 1, 1 << 32, 1 << 32 | 1, 1 << 63, u64::MAX]);
     let (init, xorout) = (unfit(), unfit());
     match random.below(3) {

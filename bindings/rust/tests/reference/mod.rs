@@ -3,9 +3,19 @@
 //!
 //! A call gives `Err` with the number of the condition that refused it, and then has changed nothing.
 
+#![allow(dead_code)] // no test uses all of it
+
 use rangqoda::Crc;
 use std::cell::RefCell;
+use std::cmp::Ordering;
 use std::rc::Rc;
+
+/// The most positions of a pattern; the bytes of the longest record, which are the least output of a page; those of a mark and of
+/// a verdict.
+pub const MOST_POSITIONS: usize = 4;
+pub const RECORD_BYTES: usize = 1 + 2 * MOST_POSITIONS;
+pub const MARK_BYTES: usize = RECORD_BYTES;
+pub const VERDICT_BYTES: usize = 1 + 8 + RECORD_BYTES;
 
 pub type Answer<T> = Result<T, u32>;
 
@@ -120,7 +130,7 @@ fn values_fit(crc: Crc, n: usize) -> Answer<()> {
 }
 
 fn limit_fits(limit: usize) -> Answer<()> {
-    if limit == 0 || limit > 4 {
+    if limit == 0 || limit > MOST_POSITIONS {
         return Err(3);
     }
     Ok(())
@@ -284,7 +294,8 @@ pub fn tables_of(generator: u64) -> Rc<Tables> {
     thread_local! {
         static LAST: RefCell<Vec<(u64, Rc<Tables>)>> = const { RefCell::new(Vec::new()) };
     }
-    LAST.with_borrow_mut(|last| {
+    LAST.with(|last| {
+        let mut last = last.borrow_mut();
         if let Some((_, tables)) = last.iter().find(|(of, _)| *of == generator) {
             return tables.clone();
         }
@@ -328,53 +339,59 @@ pub fn tables(generator: u64, step: &mut [u16], first: &mut [u16]) -> Answer<u64
 
 // ---- the list and its pages
 
-/// Every way to choose `count` positions from `from..length`, lowest first.
-fn combinations(from: u16, length: u16, count: usize, chosen: &mut Pattern, visit: &mut dyn FnMut(&[u16])) {
-    if count == 0 {
-        visit(chosen);
-        return;
-    }
-    for position in from..length {
-        chosen.push(position);
-        combinations(position + 1, length, count - 1, chosen, visit);
-        chosen.pop();
-    }
+/// The list's order: fewer positions first, then by the positions from the smallest on.
+pub fn order(a: &[u16], b: &[u16]) -> Ordering {
+    (a.len(), a).cmp(&(b.len(), b))
 }
 
-/// Every pattern of at most `limit` positions with this syndrome, in the list's order. The last list is kept.
+/// Every set of at most `most` positions below `length`, in no order that matters.
+pub fn every_set(length: u16, most: usize, visit: &mut dyn FnMut(&[u16])) {
+    fn sets_from(from: u16, length: u16, most: usize, chosen: &mut Pattern, visit: &mut dyn FnMut(&[u16])) {
+        visit(chosen);
+        if chosen.len() == most {
+            return;
+        }
+        for position in from..length {
+            chosen.push(position);
+            sets_from(position + 1, length, most, chosen, visit);
+            chosen.pop();
+        }
+    }
+    sets_from(0, length, most, &mut Vec::new(), visit);
+}
+
+/// The list: of all sets of at most `limit` positions those with this syndrome, in the order. The last list is kept.
 pub fn list(generator: u64, length: usize, limit: usize, syndrome: u64) -> Rc<Vec<Pattern>> {
     type Key = (u64, usize, usize, u64);
     thread_local! {
         static LAST: RefCell<Option<(Key, Rc<Vec<Pattern>>)>> = const { RefCell::new(None) };
     }
     let key = (generator, length, limit, syndrome);
-    let kept = LAST.with_borrow(|last| last.clone().filter(|(of, _)| *of == key));
+    let kept = LAST.with(|last| last.borrow().clone()).filter(|(of, _)| *of == key);
     if let Some((_, list)) = kept {
         return list;
     }
     // what each power of x leaves: the next is the one before times x
     let powers: Vec<u64> =
         std::iter::successors(Some(1), |&left| Some(times_x(left, generator))).take(length).collect();
-    let mut found = Vec::new();
-    for count in 0..=limit {
-        combinations(0, length as u16, count, &mut Vec::new(), &mut |pattern| {
-            if pattern.iter().fold(0, |s, &p| s ^ powers[usize::from(p)]) == syndrome {
-                found.push(pattern.to_vec());
-            }
-        });
-    }
+    let mut found: Vec<Pattern> = Vec::new();
+    every_set(length as u16, limit, &mut |pattern| {
+        if pattern.iter().fold(0, |s, &p| s ^ powers[usize::from(p)]) == syndrome {
+            found.push(pattern.to_vec());
+        }
+    });
+    found.sort_by(|a, b| order(a, b));
     let found = Rc::new(found);
-    LAST.set(Some((key, found.clone())));
+    LAST.with(|last| last.replace(Some((key, found.clone()))));
     found
 }
 
-/// Whether the pattern stands behind the mark in the order: fewer positions first, then by the positions from the
-/// smallest on.
+/// Whether the pattern stands behind the mark in the order.
 fn follows(pattern: &Pattern, mark: &Mark) -> bool {
     match mark {
         Mark::Start => true,
         Mark::Ended => false,
-        Mark::After(last) => (pattern.len(), pattern) > (last.len(), last),
+        Mark::After(last) => order(pattern, last) == Ordering::Greater,
     }
 }
 
@@ -408,7 +425,7 @@ pub fn page(of: &PageOf<'_>, output: &mut [u8]) -> Answer<(usize, u64, Mark)> {
     table_lengths_fit(of.step, of.first, n)?;
     table_entries_right(of.step, of.first, of.generator)?;
     mark_fits(of.mark, of.length, of.limit)?;
-    if output.len() < 9 {
+    if output.len() < RECORD_BYTES {
         return Err(8);
     }
     let list = list(of.generator, of.length, of.limit, of.syndrome);
@@ -473,6 +490,63 @@ pub fn repair(of: &RepairOf<'_>, output: &mut [u8]) -> Answer<Verdict> {
         }
         [pattern, ..] => Verdict::Several(passing.len() as u64, pattern.clone()),
     })
+}
+
+// ---- the bytes of marks and verdicts
+
+pub fn mark_bytes(mark: &Mark) -> Vec<u8> {
+    let mut bytes = match mark {
+        Mark::Start => vec![0xFE],
+        Mark::Ended => vec![0xFF],
+        Mark::After(pattern) => record(pattern),
+    };
+    bytes.resize(MARK_BYTES, 0);
+    bytes
+}
+
+/// The positions of the record that the bytes begin with, if it is one.
+fn read_record(bytes: &[u8]) -> Option<Pattern> {
+    let positions = bytes[1..].chunks(2).map(|two| 256 * u16::from(two[0]) + u16::from(two[1]));
+    let count = usize::from(bytes[0]);
+    (count <= MOST_POSITIONS).then(|| positions.take(count).collect())
+}
+
+/// The mark of some bytes, if they are one. Bytes behind it are not read.
+pub fn read_mark(bytes: &[u8]) -> Option<Mark> {
+    match bytes.first() {
+        _ if bytes.len() != MARK_BYTES => None,
+        Some(0xFE) => Some(Mark::Start),
+        Some(0xFF) => Some(Mark::Ended),
+        _ => read_record(bytes).map(Mark::After),
+    }
+}
+
+pub fn verdict_bytes(verdict: &Verdict) -> Vec<u8> {
+    let none = Vec::new();
+    let (kind, count, pattern) = match verdict {
+        Verdict::Intact => (0, 0, &none),
+        Verdict::Repaired(pattern) => (1, 1, pattern),
+        Verdict::Several(count, pattern) => (2, *count, pattern),
+        Verdict::None => (3, 0, &none),
+    };
+    let mut bytes = vec![kind];
+    bytes.extend(count.to_be_bytes());
+    bytes.extend(record(pattern));
+    bytes.resize(VERDICT_BYTES, 0);
+    bytes
+}
+
+/// The verdict of some bytes, if they are one. Where its kind has no pattern, only the count of positions is looked at.
+pub fn read_verdict(bytes: &[u8]) -> Option<Verdict> {
+    let pattern = read_record(&bytes[9..])?;
+    let count = bytes[1..9].iter().fold(0, |count, &byte| 256 * count + u64::from(byte));
+    match bytes[0] {
+        0 => Some(Verdict::Intact),
+        1 => Some(Verdict::Repaired(pattern)),
+        2 => Some(Verdict::Several(count, pattern)),
+        3 => Some(Verdict::None),
+        _ => None,
+    }
 }
 
 // ---- blocks
