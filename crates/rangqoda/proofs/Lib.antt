@@ -1,5 +1,4 @@
 pub mod CodeLaws
-pub mod MarkByteLaws
 pub mod PageLaws
-pub mod VerdictLaws
+pub mod PublishLaws
 pub mod RepairLaws

@@ -7,7 +7,7 @@ use Rattle.base.specs.Outcome.{pick}
 use Rattle.packet.specs.Packet.{bytes}
 use Rattle.patterns.specs.Records.{recordOf, longestRecord}
 use Rattle.repair.specs.Verdicts.{Said, intact, repaired, several, nothing}
-use Rattle.rangqoda.specs.Marks.{padded}
+use Rattle.codec.specs.Marks.{padded}
 
 -- how many bytes there are
 abbrev pub verdictLength : ℕ

@@ -8,10 +8,10 @@ use lib.ListN.{length, set, length-set}
 use borrow.Rule.Slice.PartMut.{putMid}
 use Rattle.packet.specs.Packet.{bytes}
 use Rattle.packet.proofs.PacketLaws.{length-bytes}
-use Rattle.rangqoda.specs.Verdicts.{verdictLength}
-use Rattle.rangqoda.proofs.VerdictLaws.{room-eight, begun-length, parts-laid}
-use Rattle.rangqoda.proofs.put_parts.Statement.{statement}
-use Rattle.rangqoda.proofs.put_parts.Tie as tie
+use Rattle.codec.specs.Verdicts.{verdictLength}
+use Rattle.codec.proofs.VerdictLaws.{room-eight, begun-length, parts-laid}
+use Rattle.codec.proofs.put_parts.Statement.{statement}
+use Rattle.codec.proofs.put_parts.Tie as tie
 
 -- the number fills its part
 eight : (c : tie.After-put-number) → length (c .put-number .last .1 .0) ≡ 8

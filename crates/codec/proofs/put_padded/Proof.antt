@@ -4,9 +4,9 @@ use mathlib.Core.Path.{ap, _∙_}
 use Prim.Native.Nat.{ℕ}
 use lib.ListN.{replicate}
 use Rattle.patterns.specs.Records.{recordOf}
-use Rattle.rangqoda.proofs.MarkByteLaws.{record-over-zeros}
-use Rattle.rangqoda.proofs.put_padded.Statement.{statement}
-use Rattle.rangqoda.proofs.put_padded.Tie as tie
+use Rattle.codec.proofs.MarkByteLaws.{record-over-zeros}
+use Rattle.codec.proofs.put_padded.Statement.{statement}
+use Rattle.codec.proofs.put_padded.Tie as tie
 
 returns : tie.Need-returns
 returns c =

@@ -1,4 +1,4 @@
--- Verdicts as bytes: what writing their parts one after the other comes to, and what is to be published by them.
+-- Verdicts as bytes: what writing their parts one after the other comes to, and how many bytes they are.
 use mathlib.Core.Path.{_≡_, sym, ap, ap₂, _∙_}
 use mathlib.Core.List.{List, [], _∷_, _++_, append-nil}
 use Prim.Native.Nat.{ℕ, suc, _+_, _-_, _/_, _%_, _<_, _≤_}
@@ -6,20 +6,14 @@ use native.Mathlib.Omega.{arith}
 use lib.ListN.{length, take, drop, set, length-append, length-drop, length-set, drop-of-length-le}
 use lib.Seq.{set-split, take-at, drop-at, append-snoc, length-take-le, take-suc-set}
 use borrow.Rule.Slice.PartMut.{midOf, postOf, putMid, mid-len, same-len-mid}
-use borrow.Author.Tests.{eq-eqb}
 use Rattle.packet.specs.Packet.{bytes}
 use Rattle.packet.proofs.PacketLaws.{length-bytes}
-use Rattle.patterns.specs.Patterns.{mostPositions, positions}
+use Rattle.patterns.specs.Patterns.{mostPositions}
 use Rattle.patterns.specs.Records.{recordOf, longestRecord}
 use Rattle.patterns.proofs.PageLaws.{record-length}
-use Rattle.patterns.proofs.PositionLaws.{positions-most}
-use Rattle.repair.specs.declared.Verdict.{Verdict}
-use Rattle.repair.specs.declared.Verdict.the-variants.{Intact, Repaired, Several, None}
-use Rattle.repair.specs.Verdicts.{said}
-use Rattle.repair.specs.Calls.{handedBack}
-use Rattle.rangqoda.specs.Marks.{padded}
-use Rattle.rangqoda.specs.Verdicts.{verdictLength, laid, verdictBytes, publishCode, published}
-use Rattle.rangqoda.proofs.MarkByteLaws.{padded-length}
+use Rattle.codec.specs.Marks.{padded}
+use Rattle.codec.specs.Verdicts.{verdictLength, laid}
+use Rattle.codec.proofs.MarkByteLaws.{padded-length}
 
 -- a turn of the loop that writes a number from its last byte on
 pub number-turn : (s : List ℕ) (i left : ℕ) → i < length s → bytes i (left / 256) ++ drop i (set s i (left % 256)) ≡ bytes (suc i) left ++ drop (suc i) s
@@ -57,17 +51,7 @@ module _ (l : List ℕ) (x : ℕ) (full : length l ≡ verdictLength) where
         ap₂ (λ (s t : List ℕ). s ++ (zs ++ t)) front (drop-of-length-le (drop 9 b) n)
         ∙ ap (λ (t : List ℕ). x ∷ (ys ++ t)) (append-nil zs)
 
--- ---- what is to be published ----
-
-laid-length : (kind count : ℕ) (ps : List ℕ) → length ps ≤ mostPositions → length (laid kind count ps) ≡ verdictLength
+pub laid-length : (kind count : ℕ) (ps : List ℕ) → length ps ≤ mostPositions → length (laid kind count ps) ≡ verdictLength
 laid-length kind count ps h =
     let n : length (recordOf ps) ≤ longestRecord = omega (arith, record-length ps) in
     omega (arith, length-append (bytes 8 count) (padded (recordOf ps)), length-bytes 8 count, padded-length (recordOf ps) n)
-
--- the number that a verdict's bytes give stands for the packet that the verdict hands back
-pub published-handed : (v : Verdict) (received copy : List ℕ) → published (publishCode (verdictBytes (said v))) received copy ≡ handedBack (said v) received copy
-unfolding verdictBytes publishCode
-published-handed Intact received copy = rw (eq-eqb _ verdictLength (laid-length 0 0 [] (omega arith)))
-published-handed (Repaired p) received copy = rw (eq-eqb _ verdictLength (laid-length 1 1 (positions p) (positions-most p)))
-published-handed (Several k p) received copy = rw (eq-eqb _ verdictLength (laid-length 2 k (positions p) (positions-most p)))
-published-handed None received copy = rw (eq-eqb _ verdictLength (laid-length 3 0 [] (omega arith)))

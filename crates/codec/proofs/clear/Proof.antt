@@ -5,8 +5,8 @@ use Prim.Native.Nat.{ℕ, _-_, _≤_}
 use native.Mathlib.Omega.{arith}
 use borrow.Author.Fill.{fill-none, fill-more}
 use lib.ListN.{length, set, drop, replicate, length-set, drop-of-length-le}
-use Rattle.rangqoda.proofs.clear.Statement.{statement}
-use Rattle.rangqoda.proofs.clear.Tie as tie
+use Rattle.codec.proofs.clear.Statement.{statement}
+use Rattle.codec.proofs.clear.Tie as tie
 
 abbrev Inv-loop : tie.InvT-loop
 Inv-loop bytes₀ i₀ bytes i = (i ≤ length bytes₀) × (length bytes ≡ length bytes₀) × (bytes ≡ replicate i 0 ++ drop i bytes₀)

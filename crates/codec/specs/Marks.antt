@@ -1,6 +1,7 @@
 -- Marks as bytes, as many as the longest record has: FEh for Start, FFh for Ended, else the record of the pattern, with
 -- zeros behind it.
-use Prim.Native.Nat.{ℕ, _-_}
+use Prim.Native.Nat.{ℕ, _-_, _<_}
+use mathlib.Core.Path.{_≡_}
 use mathlib.Core.List.{List, [], _∷_, _++_}
 use lib.Dec.{eqb, leb}
 use lib.ListN.{length, getD, replicate}
@@ -22,6 +23,11 @@ placeByKind s =
 -- the mark that bytes give
 unfoldable pub placeOfBytes : List ℕ → Place
 placeOfBytes s = pick (eqb (length s) longestRecord) (placeByKind s) malformed
+
+-- bytes that are no mark: more or fewer than a mark has, or with a first byte above the counts of positions and below FEh
+pub data NoMark (s : List ℕ) : Type 0 where
+  other-length : (length s ≡ longestRecord → ⊥) → NoMark s
+  other-first : mostPositions < getD s 0 0 → getD s 0 0 < 254 → NoMark s
 
 -- bytes with zeros behind them
 abbrev pub padded : List ℕ → List ℕ

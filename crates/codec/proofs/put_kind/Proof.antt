@@ -4,8 +4,8 @@ use mathlib.Core.Path.{ap, _∙_}
 use mathlib.Core.List.{List}
 use Prim.Native.Nat.{ℕ}
 use lib.ListN.{set, replicate}
-use Rattle.rangqoda.proofs.put_kind.Statement.{statement}
-use Rattle.rangqoda.proofs.put_kind.Tie as tie
+use Rattle.codec.proofs.put_kind.Statement.{statement}
+use Rattle.codec.proofs.put_kind.Tie as tie
 
 returns : tie.Need-returns
 returns c =

@@ -2,19 +2,19 @@
 use mathlib.Core.Path.{_≡_, refl, ap, _∙_}
 use mathlib.Core.Bool.{true}
 use mathlib.Core.List.{List, _++_}
-use Prim.Native.Nat.{ℕ, zero, suc, _+_, _-_, _≤_}
+use Prim.Native.Nat.{ℕ, zero, suc, _+_, _-_, _<_, _≤_}
 use native.Mathlib.Omega.{arith}
 use lib.Dec.{ltb}
-use lib.ListN.{length, take, drop, replicate, length-append, length-replicate}
-use borrow.Author.Tests.{eq-eqb, ne-eqb, le-leb}
-use Rattle.base.proofs.Cases.{by-test}
+use lib.ListN.{length, getD, take, drop, replicate, length-append, length-replicate}
+use borrow.Author.Tests.{eq-eqb, ne-eqb, le-leb, lt-leb}
+use Rattle.base.proofs.Cases.{by-test, by-equal}
 use Rattle.patterns.specs.Patterns.{mostPositions, Place, start, ended, after}
 use Rattle.patterns.specs.Listing.{ascending}
 use Rattle.patterns.specs.Marks.{unfitPattern, unfitMark}
 use Rattle.patterns.specs.Records.{recordOf, longestRecord}
 use Rattle.patterns.proofs.PageLaws.{record-length}
 use Rattle.patterns.proofs.RecordLaws.{record-back}
-use Rattle.rangqoda.specs.Marks.{malformed, placeByKind, placeOfBytes, padded, markBytes}
+use Rattle.codec.specs.Marks.{malformed, placeByKind, placeOfBytes, NoMark, other-length, other-first, padded, markBytes}
 
 -- ---- bytes that are no mark ----
 
@@ -24,9 +24,19 @@ unfolding unfitPattern ascending
 malformed-unfit l limit =
     by-test (ltb limit 2) (λ h. rw h) (λ h. rw h (by-test (ltb 0 l) (λ k. rw k) (λ k. rw k)))
 
-pub malformed-by-length : (s : List ℕ) → (length s ≡ longestRecord → ⊥) → placeOfBytes s ≡ malformed
+pub no-mark-malformed : {s : List ℕ} → NoMark s → placeOfBytes s ≡ malformed
 unfolding placeOfBytes
-malformed-by-length s h = rw (ne-eqb (length s) longestRecord h)
+no-mark-malformed {s} (other-length h) = rw (ne-eqb (length s) longestRecord h)
+no-mark-malformed {s} (other-first above below) =
+    by-equal (length s) longestRecord
+    (λ e.
+    rw (
+      eq-eqb (length s) longestRecord e,
+      ne-eqb (getD s 0 0) 254 (λ k. omega arith),
+      ne-eqb (getD s 0 0) 255 (λ k. omega arith),
+      lt-leb (getD s 0 0) mostPositions above,
+    ))
+    (λ h. rw (ne-eqb (length s) longestRecord h))
 
 -- ---- writing ----
 

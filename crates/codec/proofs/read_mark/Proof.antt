@@ -4,13 +4,13 @@ use borrow.Author.Needs.{needs}
 use mathlib.Core.Path.{sym, ap, _∙_}
 use Rattle.base.proofs.Cases.{tests}
 use Rattle.patterns.specs.Patterns.{after}
-use Rattle.rangqoda.specs.Marks.{placeOfBytes}
-use Rattle.rangqoda.proofs.MarkByteLaws.{malformed-by-length}
-use Rattle.rangqoda.proofs.read_mark.Statement.{statement}
-use Rattle.rangqoda.proofs.read_mark.Tie as tie
+use Rattle.codec.specs.Marks.{placeOfBytes, other-length}
+use Rattle.codec.proofs.MarkByteLaws.{no-mark-malformed}
+use Rattle.codec.proofs.read_mark.Statement.{statement}
+use Rattle.codec.proofs.read_mark.Tie as tie
 
 returns : tie.Need-returns
-returns c = rw (c .no-mark .ensures) (sym (malformed-by-length _ (c .before .if1 .taken)))
+returns c = rw (c .no-mark .ensures) (sym (no-mark-malformed (other-length (c .before .if1 .taken))))
 
 returns-2 : tie.Need-returns-2
 unfolding placeOfBytes

@@ -1,8 +1,8 @@
 -- `put_verdict` writes the bytes that the definition gives to each verdict.
 use borrow.Author.Needs.{needs}
-use Rattle.rangqoda.specs.Verdicts.{verdictBytes}
-use Rattle.rangqoda.proofs.put_verdict.Statement.{statement}
-use Rattle.rangqoda.proofs.put_verdict.Tie as tie
+use Rattle.codec.specs.Verdicts.{verdictBytes}
+use Rattle.codec.proofs.put_verdict.Statement.{statement}
+use Rattle.codec.proofs.put_verdict.Tie as tie
 
 returns : tie.Need-returns
 unfolding verdictBytes

@@ -1,8 +1,8 @@
 -- `put_mark` writes the bytes that the definition gives to each kind of mark.
 use borrow.Author.Needs.{needs}
-use Rattle.rangqoda.specs.Marks.{markBytes}
-use Rattle.rangqoda.proofs.put_mark.Statement.{statement}
-use Rattle.rangqoda.proofs.put_mark.Tie as tie
+use Rattle.codec.specs.Marks.{markBytes}
+use Rattle.codec.proofs.put_mark.Statement.{statement}
+use Rattle.codec.proofs.put_mark.Tie as tie
 
 returns : tie.Need-returns
 unfolding markBytes

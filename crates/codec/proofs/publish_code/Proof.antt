@@ -1,9 +1,9 @@
--- `rangqoda_publish` goes by the length and the first byte, as the definition does.
+-- `publish_code` goes by the length and the first byte, as the definition does.
 use borrow.Author.Needs.{needs}
 use Rattle.base.proofs.Cases.{tests}
-use Rattle.rangqoda.specs.Verdicts.{publishCode}
-use Rattle.rangqoda.proofs.rangqoda_publish.Statement.{statement}
-use Rattle.rangqoda.proofs.rangqoda_publish.Tie as tie
+use Rattle.codec.specs.Verdicts.{publishCode}
+use Rattle.codec.proofs.publish_code.Statement.{statement}
+use Rattle.codec.proofs.publish_code.Tie as tie
 
 returns : tie.Need-returns
 unfolding publishCode
@@ -21,6 +21,6 @@ returns-4 : tie.Need-returns-4
 unfolding publishCode
 returns-4 c = search (needs, tests)
 
-pub rangqoda-publish-spec : {M : Type 1} → statement M
-rangqoda-publish-spec =
+pub publish-code-spec : {M : Type 1} → statement M
+publish-code-spec =
     tie.close (tie.spec returns (λ c. search needs) returns-2 returns-3 returns-4)

@@ -9,8 +9,8 @@ use lib.Seq.{take-all, length-take-le}
 use Rattle.patterns.specs.Patterns.{mostPositions}
 use Rattle.patterns.specs.Records.{positionsIn}
 use Rattle.patterns.proofs.RecordLaws.{length-positions, positions-take}
-use Rattle.rangqoda.proofs.read_pattern.Statement.{statement}
-use Rattle.rangqoda.proofs.read_pattern.Tie as tie
+use Rattle.codec.proofs.read_pattern.Statement.{statement}
+use Rattle.codec.proofs.read_pattern.Tie as tie
 
 abbrev entry : tie.After-get-positions → tie.Start
 entry c = c .before .before .before .before

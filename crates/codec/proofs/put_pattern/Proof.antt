@@ -9,9 +9,9 @@ use lib.Seq.{length-take-le}
 use Rattle.patterns.specs.Patterns.{positions}
 use Rattle.patterns.specs.Records.{recordOf}
 use Rattle.patterns.proofs.PositionLaws.{positions-most, spread-take, spread-length}
-use Rattle.rangqoda.specs.Marks.{padded}
-use Rattle.rangqoda.proofs.put_pattern.Statement.{statement}
-use Rattle.rangqoda.proofs.put_pattern.Tie as tie
+use Rattle.codec.specs.Marks.{padded}
+use Rattle.codec.proofs.put_pattern.Statement.{statement}
+use Rattle.codec.proofs.put_pattern.Tie as tie
 
 -- the array holds them all
 enough : (c : tie.After-count-of) → c .count-of .result ≤ length (c .before .spread .result)

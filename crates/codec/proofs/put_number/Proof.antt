@@ -7,9 +7,9 @@ use native.Mathlib.Omega.{arith}
 use lib.ListN.{length, drop, length-set}
 use lib.Seq.{drop-length}
 use Rattle.packet.specs.Packet.{bytes}
-use Rattle.rangqoda.proofs.VerdictLaws.{number-turn}
-use Rattle.rangqoda.proofs.put_number.Statement.{statement}
-use Rattle.rangqoda.proofs.put_number.Tie as tie
+use Rattle.codec.proofs.VerdictLaws.{number-turn}
+use Rattle.codec.proofs.put_number.Statement.{statement}
+use Rattle.codec.proofs.put_number.Tie as tie
 
 abbrev Inv-loop : tie.InvT-loop
 Inv-loop value out₀ left₀ i₀ out left i =
