@@ -1,4 +1,5 @@
 pub mod CodeLaws
+pub mod ReturnLaws
 pub mod PageLaws
 pub mod PublishLaws
 pub mod RepairLaws
