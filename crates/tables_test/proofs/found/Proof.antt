@@ -1,19 +1,19 @@
--- `found_in_firsts` counts at most one for each of the sixteen bits; the length stays.
+-- `found` counts at most one for each of the sixteen bits; the length stays.
 use borrow.Author.Needs.{needs}
 use mathlib.Core.Path.{_≡_}
 use Prim.Native.Nat.{_-_, _≤_}
 use lib.ListN.{length}
-use Rattle.tables_test.proofs.found_in_firsts.Statement.{statement}
-use Rattle.tables_test.proofs.found_in_firsts.Tie as tie
+use Rattle.tables_test.proofs.found.Statement.{statement}
+use Rattle.tables_test.proofs.found.Tie as tie
 
 abbrev Inv-loop : tie.InvT-loop
-Inv-loop generator steps firsts₀ s right found₀ j₀ firsts found j = (j ≤ 16) × (found ≤ j) × (length firsts ≡ length firsts₀)
+Inv-loop generator has-steps table₀ other s right count₀ j₀ table count j = (j ≤ 16) × (count ≤ j) × (length table ≡ length table₀)
 
 abbrev μ-loop : tie.MeasureT-loop
-μ-loop generator steps firsts₀ s right found₀ j₀ firsts found j = 16 - j
+μ-loop generator has-steps table₀ other s right count₀ j₀ table count j = 16 - j
 
-pub found-in-firsts-spec : {M : Type 1} → statement M
-found-in-firsts-spec =
+pub found-spec : {M : Type 1} → statement M
+found-spec =
     tie.close
     (tie.spec
     Inv-loop
