@@ -51,6 +51,7 @@ module _ (l : List ℕ) (x : ℕ) (full : length l ≡ verdictLength) where
         ap₂ (λ (s t : List ℕ). s ++ (zs ++ t)) front (drop-of-length-le (drop 9 b) n)
         ∙ ap (λ (t : List ℕ). x ∷ (ys ++ t)) (append-nil zs)
 
+-- the parts together are as long as a verdict is
 pub laid-length : (kind count : ℕ) (ps : List ℕ) → length ps ≤ mostPositions → length (laid kind count ps) ≡ verdictLength
 laid-length kind count ps h =
     let n : length (recordOf ps) ≤ longestRecord = omega (arith, record-length ps) in
