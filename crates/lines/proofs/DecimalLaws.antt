@@ -97,3 +97,7 @@ decimal-length (suc k) v h =
     by-order v 10
     (λ l. rw (decimal-small v l) (omega arith))
     (λ l. rw (decimal-step v l) (simp length-append (omega (arith, decimal-length k (v / 10) (omega arith)))))
+
+-- one of two bytes fits where there is room for five digits
+pub two-bytes-fit : {v room : ℕ} (to : ℕ) → v < 65536 → to + 5 ≤ room → to + length (decimal v) ≤ room
+two-bytes-fit {v} to h k = omega (arith, decimal-length 4 v (omega arith))

@@ -5,6 +5,7 @@ use Prim.Native.Nat.{ℕ, _+_, _≤_}
 use native.Mathlib.Omega.{arith}
 use lib.ListN.{length, take, set, length-append}
 use lib.Seq.{sets, length-sets, length-take-le, take-at}
+use Rattle.lines.specs.Decimal.{decimal}
 use Rattle.lines.specs.Writing.{Stored, Front}
 use Rattle.lines.proofs.StoreLaws.{sets-append, sets-start}
 
@@ -44,6 +45,10 @@ stored-joined {out} {mid} {after} {to} {middle} {next} word text g h =
       place = omega (arith, g .place, h .place, length-append word text);
       bytes = h .bytes ∙ rw (g .bytes, g .place) (sym (sets-append word text out to));
     }
+
+-- a number is stored as any that equals it
+pub stored-as : {out : List ℕ} {to v q next : ℕ} {after : List ℕ} → Stored out to (decimal v) next after → v ≡ q → Stored out to (decimal q) next after
+stored-as h e = rw e at h
 
 pub front-of : (n : ℕ) (xs : List ℕ) → n ≤ length xs → Front n xs
 front-of n xs h = (h, sym (length-take-le n xs h))

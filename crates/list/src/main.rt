@@ -6,9 +6,9 @@ use lister::Due;
 use lister::MOST_ENTRIES;
 use lister::Turn;
 ghost use mathlib.Core.Path.{_≡_};
-ghost use Prim.Native.Nat.{_≤_};
+ghost use Prim.Native.Nat.{_<_, _≤_};
 ghost use lib.ListN.{length};
-ghost use Rattle.lister.specs.Turns.{Sound, entriesFor, mostEntries, Tabled, HasRoom};
+ghost use Rattle.lister.specs.Turns.{longestLine, Sound, entriesFor, mostEntries, Tabled, HasRoom};
 
 // Prints what is due, turn by turn.
 fn print_due(due: Due, steps: &[u16], firsts: &[u16], page: &mut [u8], text: &mut [u8])
@@ -63,11 +63,18 @@ fn table() -> [u16; MOST_ENTRIES]
     [0; MOST_ENTRIES]
 }
 
-// A line of four numbers has at most 40 bytes, so 64 decide what is printed (PrintedLaws in the crate lister).
+// Reads the input until it ends or the buffer is full, and judges it.
+fn read_input(buffer: &mut [u8]) -> Due
+    requires { ⌜ longestLine < length (now buffer) ⌝ }
+    ensures { λ r. ⌜ Sound r ⌝ }
+{
+    let n = io::read_full(STDIN_FILENO, buffer);
+    lister::begin(buffer, n)
+}
+
 fn main() {
     let mut input = [0u8; 64];
-    let n = io::read_full(STDIN_FILENO, &mut input);
-    let due = lister::begin(&input[..n]);
+    let due = read_input(&mut input);
     let size = lister::entries(due);
     let mut steps = table();
     let mut firsts = table();

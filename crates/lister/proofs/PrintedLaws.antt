@@ -13,7 +13,7 @@ use Rattle.lines.specs.Text.{badLine}
 use Rattle.lines.specs.Parsing.{numbersIn, wholeLine}
 use Rattle.lines.proofs.InputLaws.{line-read, read-line}
 use Rattle.lister.specs.Printed.{printedFor, Prints, for-line, for-other}
-use Rattle.lister.specs.Turns.{printed}
+use Rattle.lister.specs.Turns.{longestLine, printed}
 
 pub printed-line : (input : List ℕ) (g l n s : ℕ) → IsLine (g ∷ l ∷ n ∷ s ∷ []) input → printed input ≡ printedFor g l n s
 printed-line input g l n s h = let r = line-read h in rw (r .0, r .1)
@@ -62,10 +62,10 @@ line-short no-more = omega arith
 line-short (one-more {vs = vs} {ds = ds} {rest = rest} h e l) =
     omega (arith, h .few, ap length e, length-append ds (closing (length vs) ∷ rest), line-short l)
 
-long-bad : (input : List ℕ) → 40 < length input → printed input ≡ badLine
+long-bad : (input : List ℕ) → longestLine < length input → printed input ≡ badLine
 long-bad input h = printed-bad input (λ g l n s q. omega (arith, line-short q))
 
-pub printed-first : (room : ℕ) (input : List ℕ) → 40 < room → printed (take room input) ≡ printed input
+pub printed-first : (room : ℕ) (input : List ℕ) → longestLine < room → printed (take room input) ≡ printed input
 printed-first room input h =
     by-order room (length input)
     (λ l. long-bad (take room input) (omega (arith, length-take-le room input (omega arith))) ∙ sym (long-bad input (omega arith)))

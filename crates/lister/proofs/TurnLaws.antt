@@ -35,13 +35,13 @@ use Rattle.pages.proofs.PageTheorem.{page-accepts, page-holds, page-within, pag
 use Rattle.lines.specs.Text.{textOf, endLine}
 use Rattle.lines.proofs.RecordLaws.{text-append}
 use Rattle.lister.specs.Printed.{unfitListed, listConditions, Prints}
-use Rattle.lister.specs.Turns.{printed, ahead, textDue, turnsFor, NotEnded, Going, Sound, Turned, Run, last, more}
+use Rattle.lister.specs.Turns.{WasRead, printed, ahead, textDue, turnsFor, NotEnded, Going, Sound, Turned, Run, last, more}
 use Rattle.lister.specs.declared.Settings.{Settings}
 use Rattle.lister.specs.declared.Turn.{Turn}
 use Rattle.lister.specs.declared.Due.{Due}
 use Rattle.lister.specs.declared.Due.the-variants.{Listing}
 use Rattle.patterns.specs.declared.Mark.{Mark}
-use Rattle.lister.proofs.PrintedLaws.{printed-prints, printed-first}
+use Rattle.lister.proofs.PrintedLaws.{printed-prints}
 
 -- a generator that is listed is fit, and of degree 14 at most
 pub listed-fit : (g : ℕ) → unfitListed g ≡ false → (unfit g ≡ false) × (degree g ≤ 14)
@@ -157,7 +157,7 @@ pub run-prints : {steps firsts : List ℕ} {due : Due} {text : List ℕ} → Run
 run-prints (last text n t) = sym (t .0)
 run-prints (more text n t r) = ap (λ (rest : List ℕ). take n text ++ rest) (run-prints r) ∙ sym (t .0)
 
--- so whatever turns follow upon what is due by the first bytes of an input, the texts joined are what is to be printed for it
-pub program-prints : (room : ℕ) (input : List ℕ) → 40 < room → {steps firsts : List ℕ} {due : Due} {text : List ℕ}
-    → textDue due ≡ printed (take room input) → Run steps firsts due text → Prints input text
-program-prints room input h e r = subst (Prints input) (sym (run-prints r ∙ e ∙ printed-first room input h)) (printed-prints input)
+-- so whatever turns follow upon what is due by the bytes that were read of an input, the texts joined are what is to be printed for it
+pub program-prints : (buffer : List ℕ) (n : ℕ) (input : List ℕ) → WasRead buffer n input → {steps firsts : List ℕ} {due : Due} {text : List ℕ}
+    → ((whole : List ℕ) → WasRead buffer n whole → textDue due ≡ printed whole) → Run steps firsts due text → Prints input text
+program-prints buffer n input w e r = subst (Prints input) (sym (run-prints r ∙ e input w)) (printed-prints input)

@@ -22,6 +22,14 @@ use Rattle.lister.specs.declared.Turn.{Turn}
 use Rattle.lister.specs.declared.Turn.the-variants.{Last, More}
 use Rattle.lister.specs.Printed.{greatestListed, listConditions, listFor, printedFor}
 
+-- the bytes of the longest line of four numbers: nine digits and a closing byte for each
+abbrev pub longestLine : ℕ
+longestLine = 4 * (9 + 1)
+
+-- the first n bytes of a buffer are what was read of an input: all of it, or as much as the buffer holds
+abbrev pub WasRead : List ℕ → ℕ → List ℕ → Type 0
+WasRead buffer n input = take n buffer ≡ take (length buffer) input
+
 -- what is printed, computed by reading the line; PrintedLaws has that it is what Prints says, and nothing else is
 abbrev pub printed : List ℕ → List ℕ
 printed input =

@@ -6,7 +6,8 @@ use patterns::Mark;
 use poly::Generator;
 ghost use mathlib.Core.Path.{_≡_};
 ghost use mathlib.Core.Bool.{false};
-ghost use Prim.Native.Nat.{_^_, _≤_};
+ghost use mathlib.Core.List.{List};
+ghost use Prim.Native.Nat.{ℕ, _^_, _<_, _≤_};
 ghost use lib.ListN.{length};
 ghost use Rattle.base.specs.Judged.{judgement, judged};
 ghost use Rattle.poly.specs.Polynomial.{degree};
@@ -14,6 +15,8 @@ ghost use Rattle.patterns.specs.Patterns.{placeOf};
 ghost use Rattle.lister.specs.declared.Due.the-variants.{Listing};
 ghost use Rattle.lister.specs.Printed.{unfitListed, listConditions, printedFor};
 ghost use Rattle.lister.specs.Turns.{
+  longestLine,
+  WasRead,
   NotEnded,
   printed,
   textDue,
@@ -103,8 +106,8 @@ fn ask(generator: u64, bits: usize, limit: usize, syndrome: u64) -> Due
     }
 }
 
-// Judges the whole input.
-pub fn begin(input: &[u8]) -> Due
+// What the whole input comes to.
+fn judge_input(input: &[u8]) -> Due
     ensures text { λ r. ⌜ textDue r ≡ printed (now (input .entry)) ⌝ }
     ensures sound { λ r. ⌜ Sound r ⌝ }
 {
@@ -118,6 +121,16 @@ pub fn begin(input: &[u8]) -> Due
         );
     }
     Due::Bad
+}
+
+// What an input comes to, by the first n bytes of a buffer into which it was read. A buffer with room for more than the longest
+// line is enough, since a longer input is a bad line.
+pub fn begin(buffer: &[u8], n: usize) -> Due
+    requires { ⌜ (longestLine < length (now buffer)) × (n ≤ length (now buffer)) ⌝ }
+    ensures text { λ r. ⌜ ((input : List ℕ) → WasRead (now (buffer .entry)) n input → textDue r ≡ printed input) ⌝ }
+    ensures sound { λ r. ⌜ Sound r ⌝ }
+{
+    judge_input(&buffer[..n])
 }
 
 // The entries of a table of a generator that is listed.

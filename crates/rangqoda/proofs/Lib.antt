@@ -1,5 +1,5 @@
 pub mod CodeLaws
-pub mod MarkByteLaws
+pub mod ReturnLaws
 pub mod PageLaws
-pub mod VerdictLaws
+pub mod PublishLaws
 pub mod RepairLaws

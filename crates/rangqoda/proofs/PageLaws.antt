@@ -1,4 +1,4 @@
--- A page call is accepted only from a mark of the right number of bytes: others are taken for a mark that condition 7 refuses.
+-- Bytes that are no mark are taken for one that condition 7 refuses, so a page call is accepted only from as many bytes as a mark has.
 -- And the mark that it then writes is read back as it is by the next call.
 use mathlib.Core.Path.{_≡_, sym, ap, _∙_}
 use mathlib.Core.Bool.{true, false, true≢false}
@@ -17,27 +17,26 @@ use Rattle.patterns.proofs.MarkLaws.{fit-limit, fit-iff}
 use Rattle.pages.specs.Conditions.{Request, pageConditions}
 use Rattle.pages.specs.Calls.{requested, pageCall}
 use Rattle.pages.proofs.PageTheorem.{page-mark-fits}
-use Rattle.rangqoda.specs.Marks.{malformed, placeOfBytes, markBytes}
-use Rattle.rangqoda.proofs.MarkByteLaws.{malformed-unfit, malformed-by-length, Short, at-start, at-end, behind, read-back}
+use Rattle.codec.specs.Marks.{placeOfBytes, NoMark, other-length, markBytes}
+use Rattle.codec.proofs.MarkByteLaws.{malformed-unfit, no-mark-malformed, Short, at-start, at-end, behind, read-back}
 
 -- an accepted call's mark is fit
 pub accepted-fit : (r : Request) (mark : Place) {page : Page} → accepted page ≡ pageCall r mark → unfitMark (r .bits) (r .limit) mark ≡ false
 accepted-fit r mark {page} e =
     judge-clear (pageConditions r mark) (pageOf (remaining (requested r) mark) (length (r .output))) page (sym e) 7
 
+no-mark-unfit : (r : Request) {s : List ℕ} → NoMark s → unfitMark (r .bits) (r .limit) (placeOfBytes s) ≡ true
+no-mark-unfit r h = ap (unfitMark (r .bits) (r .limit)) (no-mark-malformed h) ∙ malformed-unfit (r .bits) (r .limit)
+
 pub accepted-long : (r : Request) (s : List ℕ) {page : Page} → accepted page ≡ pageCall r (placeOfBytes s) → length s ≡ longestRecord
 accepted-long r s e =
     by-equal (length s) longestRecord (λ h. h)
-    (λ h.
-    absurd
-    (true≢false
-    (sym (malformed-unfit (r .bits) (r .limit))
-    ∙ ap (unfitMark (r .bits) (r .limit)) (sym (malformed-by-length s h))
-    ∙ accepted-fit r (placeOfBytes s) e)))
+    (λ h. absurd (true≢false (sym (no-mark-unfit r (other-length h)) ∙ accepted-fit r (placeOfBytes s) e)))
 
 -- bytes that are no mark are refused by 7, unless an earlier condition applies
-pub malformed-refused : (r : Request) → pageCall r malformed ≡ judge (earlier 7 (pageConditions r malformed)) refused (refused 7)
-malformed-refused r = judge-applied 7 (pageConditions r malformed) _ (malformed-unfit (r .bits) (r .limit))
+pub no-mark-refused : (r : Request) (s : List ℕ) → NoMark s
+    → pageCall r (placeOfBytes s) ≡ judge (earlier 7 (pageConditions r (placeOfBytes s))) refused (refused 7)
+no-mark-refused r s h = judge-applied 7 (pageConditions r (placeOfBytes s)) _ (no-mark-unfit r h)
 
 -- the next mark of an accepted call, written and read back, is that mark
 pub mark-read-back : (r : Request) (mark : Place) (page : Page) → pageCall r mark ≡ accepted page → placeOfBytes (markBytes (page .next)) ≡ page .next

@@ -17,7 +17,7 @@ use Rattle.checksum.specs.declared.Check.{Check}
 use Rattle.verdicts.specs.Verdicts.{Said, verdict}
 use Rattle.repair.specs.Calls.{Repair, repairRequest, repairConditions, repairCall, repairOutput}
 use Rattle.repair.proofs.ConditionLaws.{copy-unfit, fit-copy}
-use Rattle.rangqoda.specs.Verdicts.{verdictLength}
+use Rattle.codec.specs.Verdicts.{verdictLength}
 use Rattle.rangqoda.specs.Repairs.{room, handed, outputAfter}
 
 pub room-within : (verdict output : List ℕ) → room verdict output ≤ length output

@@ -1,5 +1,3 @@
 pub mod Codes
-pub mod Marks
 pub mod Pages
-pub mod Verdicts
 pub mod Repairs

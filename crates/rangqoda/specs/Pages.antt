@@ -4,7 +4,7 @@ use mathlib.Core.List.{List}
 use Rattle.base.specs.Outcome.{Outcome}
 use Rattle.patterns.specs.Pages.{Page}
 use Rattle.rangqoda.specs.Codes.{changed}
-use Rattle.rangqoda.specs.Marks.{markBytes}
+use Rattle.codec.specs.Marks.{markBytes}
 
 -- the mark's bytes, the number of bytes used and the number of records written, after a call of this answer
 abbrev pub markAfter : List ℕ → Outcome Page → List ℕ

@@ -9,7 +9,7 @@ use Rattle.packet.specs.declared.Crc.{Crc}
 use Rattle.checksum.specs.declared.Check.{Check}
 use Rattle.repair.specs.Calls.{Repair, repairRequest, repairOutput}
 use Rattle.rangqoda.specs.Codes.{changed}
-use Rattle.rangqoda.specs.Verdicts.{verdictLength, verdictBytes}
+use Rattle.codec.specs.Verdicts.{verdictLength, verdictBytes}
 
 -- how much of the output a call may write: all of it, and none without room for the verdict's bytes; no packet that
 -- condition 2 lets through is as short as that, so condition 8 refuses the call, in its place among the conditions

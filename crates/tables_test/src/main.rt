@@ -6,113 +6,14 @@
 use poly::Construction;
 use poly::Generator;
 use tables::TablesAnswer;
+ghost use mathlib.Core.Path.{_≡_};
 ghost use Prim.Native.Nat.{_≤_};
-
-// The catalogue's generators of degree 3 to 16.
-const GENERATORS: [u64; 47] = [
-    11,
-    19,
-    41,
-    53,
-    37,
-    103,
-    71,
-    89,
-    67,
-    111,
-    137,
-    207,
-    197,
-    303,
-    423,
-    411,
-    313,
-    469,
-    285,
-    329,
-    263,
-    305,
-    1587,
-    2009,
-    1397,
-    2949,
-    2823,
-    7955,
-    6159,
-    7473,
-    15605,
-    18437,
-    24621,
-    50585,
-    59413,
-    98309,
-    116839,
-    66953,
-    81253,
-    69665,
-    94051,
-    67595,
-    88373,
-    95579,
-    73167,
-    101303,
-    106647,
-];
-
-// 2^n for each.
-const SIZES: [usize; 47] = [
-    8,
-    16,
-    32,
-    32,
-    32,
-    64,
-    64,
-    64,
-    64,
-    64,
-    128,
-    128,
-    128,
-    256,
-    256,
-    256,
-    256,
-    256,
-    256,
-    256,
-    256,
-    256,
-    1024,
-    1024,
-    1024,
-    2048,
-    2048,
-    4096,
-    4096,
-    4096,
-    8192,
-    16384,
-    16384,
-    32768,
-    32768,
-    65536,
-    65536,
-    65536,
-    65536,
-    65536,
-    65536,
-    65536,
-    65536,
-    65536,
-    65536,
-    65536,
-    65536,
-];
+ghost use lib.ListN.{length};
 
 // What the slices hold before a call that is refused.
 const MARK: u16 = 7777;
 
+// Calls with both slices as they are, and prints the answer.
 fn build(generator: u64, steps: &mut [u16], firsts: &mut [u16]) {
     let answer = tables::tables(generator, steps, firsts);
     match answer {
@@ -126,29 +27,28 @@ fn build(generator: u64, steps: &mut [u16], firsts: &mut [u16]) {
     }
 }
 
+// The same with the first n entries of the one and m of the other, where there are so many.
+fn build_part(generator: u64, n: usize, m: usize, steps: &mut [u16], firsts: &mut [u16]) {
+    if steps.len() < n {
+        return;
+    }
+    if firsts.len() < m {
+        return;
+    }
+    build(generator, &mut steps[..n], &mut firsts[..m]);
+}
+
 // A line for each remainder: the remainder, its step and its first position.
 fn print_tables(steps: &[u16], firsts: &[u16]) {
     let mut s: usize = 0;
     while s < steps.len() {
         testkit::print_number(s as u64, b' ');
-        testkit::print_number(wide(steps[s]), b' ');
+        testkit::print_number(testkit::widened(steps[s]), b' ');
         if s < firsts.len() {
-            testkit::print_number(wide(firsts[s]), b'\n');
+            testkit::print_number(testkit::widened(firsts[s]), b'\n');
         }
         s += 1;
     }
-}
-
-fn wide(x: u16) -> u64 {
-    x as u64
-}
-
-fn five() {
-    let mut steps = [0u16; 32];
-    let mut firsts = [0u16; 32];
-    let g = Generator::five();
-    build(g.coefficients, &mut steps, &mut firsts);
-    print_tables(&steps, &firsts);
 }
 
 // 1 if the generator and both tables' lengths are fit and every entry is right, else 0.
@@ -170,38 +70,31 @@ fn verdict(generator: u64, steps: &[u16], firsts: &[u16]) -> u64
     }
 }
 
-// How many of the sixteen entries that differ from the right one in a bit are found, at one place of the step table.
-fn found_in_steps(generator: u64, steps: &mut [u16], firsts: &[u16], s: usize) -> u64 {
-    if steps.len() <= s {
-        return 0;
+// The same of a table and the other, which is the one of first positions where the table has the steps.
+fn verdict_by(generator: u64, has_steps: bool, table: &[u16], other: &[u16]) -> u64
+    ensures { λ r. ⌜ r ≤ 1 ⌝ }
+{
+    if has_steps {
+        return verdict(generator, table, other);
     }
-    let right = steps[s];
-    let mut found: u64 = 0;
-    let mut j: u32 = 0;
-    while j < 16 {
-        steps[s] = right ^ (1u16 << j);
-        found += 1 - verdict(generator, steps, firsts);
-        j += 1;
-    }
-    steps[s] = right;
-    found
+    verdict(generator, other, table)
 }
 
-// The same for the table of first positions.
-fn found_in_firsts(generator: u64, steps: &[u16], firsts: &mut [u16], s: usize) -> u64 {
-    if firsts.len() <= s {
+// How many of the sixteen entries that differ from the right one in a bit are found, at one place of a table.
+fn found(generator: u64, has_steps: bool, table: &mut [u16], other: &[u16], s: usize) -> u64 {
+    if table.len() <= s {
         return 0;
     }
-    let right = firsts[s];
-    let mut found: u64 = 0;
+    let right = table[s];
+    let mut count: u64 = 0;
     let mut j: u32 = 0;
     while j < 16 {
-        firsts[s] = right ^ (1u16 << j);
-        found += 1 - verdict(generator, steps, firsts);
+        table[s] = right ^ (1u16 << j);
+        count += 1 - verdict_by(generator, has_steps, table, other);
         j += 1;
     }
-    firsts[s] = right;
-    found
+    table[s] = right;
+    count
 }
 
 // A line for each place from 0 on, so many apart: the place, and the wrong entries found there in each table.
@@ -211,8 +104,8 @@ fn places(generator: u64, steps: &mut [u16], firsts: &mut [u16], apart: usize)
     let mut s: usize = 0;
     while s < steps.len() {
         testkit::print_number(s as u64, b' ');
-        testkit::print_number(found_in_steps(generator, steps, firsts, s), b' ');
-        testkit::print_number(found_in_firsts(generator, steps, firsts, s), b'\n');
+        testkit::print_number(found(generator, true, steps, firsts, s), b' ');
+        testkit::print_number(found(generator, false, firsts, steps, s), b'\n');
         s += apart;
     }
 }
@@ -244,67 +137,81 @@ fn is_mark(x: u16) -> u64
     0
 }
 
-// How many entries still hold the mark.
-fn kept(s: &[u16]) -> u64 {
-    let mut n: u64 = 0;
+// How many of the first n entries still hold the mark.
+fn kept(s: &[u16], n: usize) -> u64 {
+    let most = testkit::least(n, s.len());
+    let mut count: u64 = 0;
     let mut i: usize = 0;
-    while i < s.len() {
-        n += is_mark(s[i]);
+    while i < most {
+        count += is_mark(s[i]);
         i += 1;
     }
-    n
+    count
 }
 
 // A call that is refused: its answer, and how much of each slice is as it was.
-fn turned_down(generator: u64, steps: &mut [u16], firsts: &mut [u16]) {
+fn turned_down(generator: u64, n: usize, m: usize, steps: &mut [u16], firsts: &mut [u16]) {
     mark(steps);
     mark(firsts);
-    build(generator, steps, firsts);
-    testkit::print_number(kept(steps), b' ');
-    testkit::print_number(kept(firsts), b'\n');
-}
-
-// The same with so many entries of each slice.
-fn turn_down_part(generator: u64, n: usize, m: usize, steps: &mut [u16], firsts: &mut [u16]) {
-    if steps.len() < n {
-        return;
-    }
-    if firsts.len() < m {
-        return;
-    }
-    turned_down(generator, &mut steps[..n], &mut firsts[..m]);
+    build_part(generator, n, m, steps, firsts);
+    testkit::print_number(kept(steps, n), b' ');
+    testkit::print_number(kept(firsts, m), b'\n');
 }
 
 fn turn_down(generator: u64, n: usize, m: usize) {
     let mut steps = [0u16; 40];
     let mut firsts = [0u16; 40];
-    turn_down_part(generator, n, m, &mut steps, &mut firsts);
+    turned_down(generator, n, m, &mut steps, &mut firsts);
 }
 
-// One generator of the catalogue.
-fn row(generator: u64, size: usize, steps: &mut [u16], firsts: &mut [u16]) {
-    if steps.len() < size {
-        return;
-    }
-    if firsts.len() < size {
-        return;
-    }
-    testkit::print_number(generator, b' ');
-    build(generator, &mut steps[..size], &mut firsts[..size]);
+// Room for the tables of the greatest degree.
+fn table() -> [u16; 65536]
+    ensures { λ r. ⌜ 65536 ≡ length r ⌝ }
+{
+    [0; 65536]
 }
 
-fn periods(steps: &mut [u16], firsts: &mut [u16]) {
-    let mut i: usize = 0;
-    while i < 47 {
-        row(GENERATORS[i], SIZES[i], steps, firsts);
-        i += 1;
+// A line for each generator of a text, which has their number first: the generator, and the answer with tables of so many entries.
+fn answers(size: usize, generators: &[u8], steps: &mut [u16], firsts: &mut [u16]) {
+    let count = testkit::number(generators, 0);
+    let mut at = count.next;
+    let mut left = count.value;
+    while 0 < left {
+        let generator = testkit::number(generators, at);
+        testkit::print_number(generator.value, b' ');
+        build_part(generator.value, size, size, steps, firsts);
+        at = generator.next;
+        left -= 1;
     }
 }
 
-fn whole() {
-    let mut steps = [0u16; 65536];
-    let mut firsts = [0u16; 65536];
-    periods(&mut steps, &mut firsts);
+fn periods(size: usize, generators: &[u8]) {
+    let mut steps = table();
+    let mut firsts = table();
+    answers(size, generators, &mut steps, &mut firsts);
+}
+
+// The catalogue's generators of degree 3 to 16, with 2^n for each degree.
+fn catalogue() {
+    periods(8, b"1: 11");
+    periods(16, b"1: 19");
+    periods(32, b"3: 41 53 37");
+    periods(64, b"5: 103 71 89 67 111");
+    periods(128, b"3: 137 207 197");
+    periods(256, b"9: 303 423 411 313 469 285 329 263 305");
+    periods(1024, b"3: 1587 2009 1397");
+    periods(2048, b"2: 2949 2823");
+    periods(4096, b"3: 7955 6159 7473");
+    periods(8192, b"1: 15605");
+    periods(16384, b"2: 18437 24621");
+    periods(32768, b"2: 50585 59413");
+    periods(65536, b"6: 98309 116839 66953 81253 69665 94051");
+    periods(65536, b"6: 67595 88373 95579 73167 101303 106647");
+}
+
+fn large() {
+    let mut steps = table();
+    let mut firsts = table();
     let g = Generator::ccitt();
     breakage(g.coefficients, &mut steps, &mut firsts, 4099);
 }
@@ -312,13 +219,16 @@ fn whole() {
 fn small() {
     let mut steps = [0u16; 32];
     let mut firsts = [0u16; 32];
-    breakage(53, &mut steps, &mut firsts, 1);
+    let g = Generator::five();
+    build(g.coefficients, &mut steps, &mut firsts);
+    print_tables(&steps, &firsts);
+    breakage(g.coefficients, &mut steps, &mut firsts, 1);
 }
 
 fn main() {
-    five();
     small();
-    whole();
+    catalogue();
+    large();
     turn_down(8, 31, 32);
     turn_down(7, 8, 8);
     turn_down(131073, 32, 32);

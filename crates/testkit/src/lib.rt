@@ -184,14 +184,15 @@ pub fn print_refused(r: Refusal, separator: u8) {
     print_number(base::number_of(r) as u64, separator);
 }
 
-fn wide_position(p: u16) -> u64 {
-    p as u64
+// A number of 16 bits as one of 64.
+pub fn widened(x: u16) -> u64 {
+    x as u64
 }
 
 fn print_positions(pos: &[u16]) {
     let mut i = 0;
     while i < pos.len() {
-        print_number(wide_position(pos[i]), b' ');
+        print_number(widened(pos[i]), b' ');
         i += 1;
     }
 }

@@ -1,15 +1,16 @@
 -- `positions_at` writes the positions with their blanks. Invariant: what is stored, with the positions left, is the whole text.
 use mathlib.Core.Path.{_≡_}
 use mathlib.Core.List.{_++_}
-use Prim.Native.Nat.{ℕ, _+_, _-_, _*_, _≤_}
+use Prim.Native.Nat.{ℕ, _+_, _-_, _*_, _<_, _≤_}
 use borrow.Author.Needs.{needs}
 use lib.ListN.{length, getD, drop, length-set}
 use Rattle.lines.specs.Decimal.{decimal}
 use Rattle.lines.specs.Text.{spaced}
+use Rattle.lines.specs.Writing.{Stored}
 use Rattle.patterns.specs.Records.{positionsIn}
-use Rattle.lines.proofs.DecimalLaws.{decimal-length}
+use Rattle.lines.proofs.DecimalLaws.{decimal-length, two-bytes-fit}
 use Rattle.lines.proofs.RecordLaws.{spaced-step, spaced-none}
-use Rattle.lines.proofs.WritingLaws.{Writing, writing-start, writing-byte, writing-part, writing-stored}
+use Rattle.lines.proofs.WritingLaws.{Writing, writing-start, writing-byte, writing-part, writing-stored, stored-as}
 use native.Mathlib.Omega.{arith}
 use Rattle.lines.proofs.positions_at.Statement.{statement}
 use Rattle.lines.proofs.positions_at.Tie as tie
@@ -22,15 +23,13 @@ Inv-loop page at count out₀ to from₀ next₀ left₀ out from next left =
 abbrev μ-loop : tie.MeasureT-loop
 μ-loop page at count out₀ to from₀ next₀ left₀ out from next left = left
 
--- the position that a turn reads, which two bytes give, has at most five digits
+-- the position that a turn reads, which two bytes give; the code's own number equals it, by arithmetic
 abbrev position : tie.At-loop Inv-loop μ-loop → ℕ
 position p =
     getD (p .before .before .before .args .page .now) (p .loop .from) 0 * 256 + getD (p .before .before .before .args .page .now) (p .loop .from + 1) 0
 
-short : (c : tie.After-shared-slice-known3 Inv-loop μ-loop) → length (decimal (position (c .before .before .before))) ≤ 5
-short c =
-    decimal-length 4 (position (c .before .before .before))
-    (omega (arith, c .shared-slice-known3 .given (c .before .before .before .loop .from + 1), c .before .shared-slice-known2 .given (c .before .before .before .loop .from)))
+small : (c : tie.After-shared-slice-known3 Inv-loop μ-loop) → position (c .before .before .before) < 65536
+small c = omega (arith, c .shared-slice-known3 .given (c .before .before .before .loop .from + 1), c .before .shared-slice-known2 .given (c .before .before .before .loop .from))
 
 loop-holds : tie.Need-loop-holds Inv-loop μ-loop
 loop-holds c =
@@ -44,25 +43,26 @@ cast-low : tie.Need-cast-low Inv-loop μ-loop
 cast-low c = omega (arith, c .shared-slice-known3 .given (c .before .before .before .loop .from + 1))
 
 mul-decimal-at : tie.Need-mul-decimal-at Inv-loop μ-loop
-mul-decimal-at c = record { fits = omega (arith, c .shared-slice-known3 .given (c .before .before .before .loop .from + 1), c .before .shared-slice-known2 .given (c .before .before .before .loop .from)) }
+mul-decimal-at c = record { fits = omega (arith, small c) }
 
 add-decimal-at : tie.Need-add-decimal-at Inv-loop μ-loop
-add-decimal-at c = record { fits = omega (arith, c .shared-slice-known3 .given (c .before .before .before .loop .from + 1), c .before .shared-slice-known2 .given (c .before .before .before .loop .from)) }
+add-decimal-at c = record { fits = omega (arith, small c) }
 
 decimal-at-requires : tie.Need-decimal-at-requires Inv-loop μ-loop
 decimal-at-requires c κs =
-    simp length-set (omega (arith, short (c .before), c .before .before .before .before .loop .inv .2 .size))
+    two-bytes-fit _ (omega (arith, small (c .before))) (simp length-set (omega (arith, c .before .before .before .before .loop .inv .2 .size)))
 
 loop-again : tie.Need-loop-again Inv-loop μ-loop
 loop-again c =
     let p = c .before .before .before .before .before .before .before in
     let page = p .before .before .before .args .page .now in
-    let rest = spaced (positionsIn (p .loop .left - 1) (drop (p .loop .from + 2) page)) in (
+    let rest = spaced (positionsIn (p .loop .left - 1) (drop (p .loop .from + 2) page)) in
+    let digits : Stored _ _ (decimal (position p)) _ _ = stored-as (c .before .before .decimal-at .ensures) (omega arith) in (
       omega arith,
-      omega (arith, short (c .before .before .before .before), c .before .before .decimal-at .ensures .place),
+      omega (arith, decimal-length 4 (position p) (omega (arith, small (c .before .before .before .before))), digits .place),
       writing-part (decimal (position p)) rest
           (writing-byte 32 (decimal (position p) ++ rest) (rw (spaced-step page (p .loop .from) (p .loop .left) (c .before .before .before .before .before .before .loop-test .taken)) at (p .loop .inv .2)))
-          _ _ (c .before .before .decimal-at .ensures .bytes) (c .before .before .decimal-at .ensures .place),
+          _ _ (digits .bytes) (digits .place),
     )
 
 same-length : tie.Need-same-length Inv-loop μ-loop

@@ -1,34 +1,21 @@
--- `begin` reads the line, and asks by its numbers.
+-- `begin` judges what was read; of an input that was longer than the buffer, more than the longest line is there, and it is bad.
 use borrow.Author.Needs.{needs}
-use mathlib.Core.Path.{_≡_, sym, _∙_}
-use mathlib.Core.Bool.{true}
-use Rattle.lines.specs.Parsing.{numbersIn, wholeLine}
-use Rattle.lines.proofs.InputLaws.{read-line}
-use Rattle.lister.proofs.PrintedLaws.{sets-four}
+use mathlib.Core.Path.{sym, ap, _∙_}
+use lib.ListN.{length}
+use lib.Seq.{length-take-le}
+use Rattle.lister.specs.Turns.{printed}
+use Rattle.lister.proofs.PrintedLaws.{printed-first}
 use Rattle.lister.proofs.begin.Statement.{statement}
 use Rattle.lister.proofs.begin.Tie as tie
 
+slice-aggregate-judge-input : tie.Need-slice-aggregate-judge-input
+slice-aggregate-judge-input c = sym (length-take-le _ _ (c .before .before .pre .1))
+
 returns : tie.Need-returns
 returns c =
-    let p = c .before .before .before in
-    let input = p .before .before .before .args .input .now in
-    let whole : wholeLine 4 input ≡ true = sym (p .parse .ensures .0) ∙ c .before .if1 .taken in
-    let numbers = p .parse .ensures .1 ∙ sets-four (numbersIn 4 input) (read-line 4 input whole .0) in
-    (rw (whole, ← numbers) (c .ask .ensures .0), c .ask .ensures .1)
-
-returns-2 : tie.Need-returns-2
-returns-2 c = (rw (← c .before .before .parse .ensures .0, c .if1 .left), tt)
+    let s = c .before .before .before in
+    let judged = c .judge-input .ensures in
+    (λ input read. judged .0 ∙ ap printed read ∙ printed-first (length (s .args .buffer .now)) input (s .pre .0), judged .1)
 
 pub begin-spec : {M : Type 1} → statement M
-begin-spec =
-    tie.close
-    (tie.spec
-    (λ c. search needs)
-    (λ c κs. search needs)
-    (λ c. search needs)
-    (λ c. search needs)
-    (λ c. search needs)
-    (λ c. search needs)
-    (λ c κs. search needs)
-    returns
-    returns-2)
+begin-spec = tie.close (tie.spec slice-aggregate-judge-input (λ c κs. search needs) returns)

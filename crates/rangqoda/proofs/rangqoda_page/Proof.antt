@@ -5,7 +5,7 @@ use mathlib.Core.List.{List}
 use Prim.Native.Nat.{ℕ}
 use Rattle.pages.specs.Conditions.{Request, pageRequest}
 use Rattle.pages.specs.Calls.{pageAnswer, pageCall, pageLeft}
-use Rattle.rangqoda.specs.Marks.{placeOfBytes}
+use Rattle.codec.specs.Marks.{placeOfBytes}
 use Rattle.rangqoda.proofs.CodeLaws.{code-refused, code-accepted, changed-refused, changed-accepted}
 use Rattle.rangqoda.proofs.PageLaws.{accepted-long}
 use Rattle.rangqoda.proofs.rangqoda_page.Statement.{statement}

@@ -1,7 +1,8 @@
 -- `rangqoda_stamp` hands the answer of `stamp` on, which has changed the packet already.
 use borrow.Author.Needs.{needs}
-use mathlib.Core.Path.{_≡_}
+use mathlib.Core.Path.{_≡_, ap, _∙_}
 use Rattle.checksum.specs.Checksum.{checkOf}
+use Rattle.checksum.specs.declared.Check.{Check}
 use Rattle.checksum.specs.Calls.{stampAnswer, stampCall, stampPacket}
 use Rattle.rangqoda.proofs.CodeLaws.{code-refused, code-accepted}
 use Rattle.rangqoda.proofs.rangqoda_stamp.Statement.{statement}
@@ -12,7 +13,12 @@ stamped : (c : tie.After-stamp) →
     let a = c .before .before .before .before .args in
     (stampAnswer (c .stamp .result) ≡ stampCall (a .generator) (checkOf (a .start) (a .end) (a .field)) (a .packet .now))
     × (c .stamp .last .1 .1 .0 ≡ stampPacket (a .generator) (checkOf (a .start) (a .end) (a .field)) (a .packet .now))
-stamped c = rw (← c .before .before .check-of .ensures) (c .stamp .ensures)
+stamped c =
+    let a = c .before .before .before .before .args in
+    let check : c .before .before .check-of .result ≡ checkOf (a .start) (a .end) (a .field) = c .before .before .check-of .ensures in (
+      c .stamp .ensures .0 ∙ ap (λ (k : Check). stampCall (a .generator) k (a .packet .now)) check,
+      c .stamp .ensures .1 ∙ ap (λ (k : Check). stampPacket (a .generator) k (a .packet .now)) check,
+    )
 
 returns : tie.Need-returns
 returns c =

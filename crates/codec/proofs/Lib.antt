@@ -1,0 +1,2 @@
+pub mod MarkByteLaws
+pub mod VerdictLaws
