@@ -40,6 +40,10 @@ pub sealed-is : (c : Crc) (s : List ℕ) → sealed c s ≡ bytes (length s) (bi
 unfolding sealed
 sealed-is c s = ap (bytes (length s)) (search (xor-comm, xor-zero-r))
 
+-- what is left once the remainder is added
+pub sealed-by : (c : Crc) (s : List ℕ) {t : List ℕ} {r : ℕ} → t ≡ bytes (length s) (bitXor (polynomial s) r) → r ≡ remainder c s → t ≡ sealed c s
+sealed-by c s added e = added ∙ ap (λ (x : ℕ). bytes (length s) (bitXor (polynomial s) x)) e ∙ sym (sealed-is c s)
+
 module _ (c : Crc) (d : Divisor (c .generator .degree) (c .generator .coefficients)) (s : List ℕ) (b : Bytes s) (long : c .generator .degree ≤ bits s) where
   n : ℕ
   n = c .generator .degree

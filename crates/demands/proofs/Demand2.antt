@@ -20,11 +20,11 @@ use Rattle.poly.specs.declared.Generator.{Generator}
 use Rattle.poly.proofs.GeneratorLaws.{fit-accepted, fit-small}
 use Rattle.poly.proofs.DivisionLaws.{quotient, remainder-unique}
 use Rattle.packet.specs.Packet.{Bytes, bits, unfitLength, unfitValues, asRead, remainder, bitAt, flips}
-use Rattle.crc.specs.Calls.{sealed, packetConditions, remainderCall, sealCall, sealPacket}
 use Rattle.packet.specs.declared.Crc.{Crc}
 use Rattle.packet.proofs.PacketLaws.{fit-length, fit-values}
 use Rattle.packet.proofs.FlipLaws.{flips-length}
 use Rattle.packet.proofs.RemainderLaws.{remainder-lt, remainder-flips}
+use Rattle.crc.specs.Calls.{sealed, packetConditions, remainderCall, sealCall, sealPacket}
 use Rattle.crc.proofs.SealLaws.{sealed-length, sealed-remainder, sealed-same, sealed-bit, sealed-only}
 use Rattle.checksum.specs.Checksum.{total, reduced, range, fieldOf, passes, withField, asWritten, stamped}
 use Rattle.checksum.specs.Calls.{sumCall, stampConditions, stampCall, stampPacket}
@@ -32,7 +32,7 @@ use Rattle.checksum.specs.declared.Check.{Check}
 use Rattle.checksum.proofs.SumLaws.{sum-reduced}
 use Rattle.checksum.proofs.RangeLaws.{sum-decides}
 use Rattle.checksum.proofs.ConditionLaws.{FitRange, fit-range, fit-field}
-use Rattle.checksum.proofs.StampLaws.{written-for-zero, ffff-sums-as-zero, stamped-length, stamped-bytes, stamped-field, stamped-not-zero, stamped-other, stamp-passes}
+use Rattle.checksum.proofs.StampLaws.{written-for-zero, ffff-sums-as-zero, stamped-is, stamped-length, stamped-bytes, stamped-field, stamped-not-zero, stamped-other, stamp-passes}
 use Rattle.tables.specs.Tables.{power, period, stepTable, firstTable}
 use Rattle.tables.specs.Calls.{tablesConditions, tablesCall, stepsAfter, firstsAfter}
 use Rattle.tables.proofs.StepLaws.{step-is, step-inverts}
@@ -233,9 +233,8 @@ module _ (g : ℕ) (k : Check) (s : List ℕ) (b : Bytes s) (h : stampCall g k s
   -- to the sum FFFFh is as good as 0: where 0 was computed, the stamped range has the sum that it has with 0 in the field
   pub ffff-as-good-as-zero : 65535 - sumCall (range (k .from) (k .to) (withField (k .field) 0 s)) ≡ 0
       → sumCall (range (k .from) (k .to) (stampPacket g k s)) ≡ sumCall (range (k .from) (k .to) (withField (k .field) 0 s))
-  unfolding stamped
   ffff-as-good-as-zero h =
-      let written : stampPacket g k s ≡ withField (k .field) 65535 s = stamp-leaves ∙ ap (λ (v : ℕ). withField (k .field) v s) (written-for-zero _ h) in
+      let written : stampPacket g k s ≡ withField (k .field) 65535 s = stamp-leaves ∙ stamped-is k s ∙ ap (λ (v : ℕ). withField (k .field) v s) (written-for-zero _ h) in
       ap (λ (l : List ℕ). sumCall (range (k .from) (k .to) l)) written
       ∙ ffff-sums-as-zero k s b inside (fit-field k (conditions-clear 10)) (λ e. omega (arith, e, h))
 

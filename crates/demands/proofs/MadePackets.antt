@@ -9,8 +9,8 @@ use Rattle.base.specs.Outcome.{accepted, when}
 use Rattle.base.proofs.JudgeLaws.{applied, judge-accepted, judge-clear}
 use Rattle.poly.specs.Polynomial.{degree}
 use Rattle.packet.specs.Packet.{bits, unfitValues, crcOf}
-use Rattle.crc.specs.Calls.{sealPacket}
 use Rattle.packet.specs.declared.Crc.{Crc}
+use Rattle.crc.specs.Calls.{sealPacket}
 use Rattle.checksum.specs.Calls.{stampConditions, stampPacket}
 use Rattle.checksum.specs.declared.Check.{Check}
 use Rattle.maker.specs.Stream.{yielded, stateAfter}

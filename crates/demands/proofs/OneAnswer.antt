@@ -5,8 +5,8 @@ use mathlib.Core.List.{List, [], _∷_}
 use Prim.Native.Nat.{ℕ}
 use Rattle.base.proofs.RefusalLaws.{number-tells}
 use Rattle.base.proofs.JudgeLaws.{refused-number}
-use Rattle.crc.specs.Calls.{remainderAnswer, remainderCall, sealAnswer, sealCall, sealPacket}
 use Rattle.packet.specs.declared.Crc.{Crc}
+use Rattle.crc.specs.Calls.{remainderAnswer, remainderCall, sealAnswer, sealCall, sealPacket}
 use Rattle.crc.specs.declared.RemainderAnswer.{RemainderAnswer}
 use Rattle.crc.specs.declared.RemainderAnswer.the-variants as RemainderAnswer-cases
 use Rattle.crc.specs.declared.SealAnswer.{SealAnswer}

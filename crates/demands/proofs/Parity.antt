@@ -16,8 +16,8 @@ use Rattle.poly.specs.Fit.{Fit}
 use Rattle.poly.proofs.GeneratorLaws.{fit-accepted}
 use Rattle.poly.proofs.ParityLaws.{parity-xor}
 use Rattle.packet.specs.Packet.{Bytes, bits, remainder, flips}
-use Rattle.crc.specs.Calls.{packetConditions, remainderCall}
 use Rattle.packet.specs.declared.Crc.{Crc}
+use Rattle.crc.specs.Calls.{packetConditions, remainderCall}
 use Rattle.checksum.specs.declared.Check.{Check}
 use Rattle.patterns.specs.Listing.{syndrome}
 use Rattle.patterns.specs.Records.{records}

@@ -8,9 +8,10 @@ use borrow.Author.Tests.{lt-leb}
 use lib.Pow.{pow-pos}
 use Rattle.poly.specs.Polynomial.{rem}
 use Rattle.packet.specs.Packet.{unfitValues, remainder}
-use Rattle.crc.specs.Calls.{sealed, remainderCall, sealCall, sealPacket}
 use Rattle.packet.specs.declared.Crc.{Crc}
 use Rattle.packet.proofs.ReadLaws.{read-plain}
+use Rattle.crc.specs.Calls.{remainderCall, sealCall, sealPacket}
+use Rattle.crc.proofs.SealLaws.{sealed-is}
 use Rattle.verdicts.specs.Verdicts.{passesBoth, candidates}
 use Rattle.repair.specs.Calls.{Repair, repairCall, repairOutput}
 use Rattle.demands.specs.Plain.{plainRemainder, plainRemainderCall, plainSealCall, plainSealPacket, plainRepairCall, plainRepairOutput}
@@ -28,8 +29,7 @@ module _ (c : Crc) (i : c .init ≡ 0) (f : c .xorout ≡ 0) where
   plain-remainder s = rw (zeros-fit, same-remainder s)
 
   pub plain-seal : (s : List ℕ) → (sealCall c s ≡ plainSealCall c s) × (sealPacket c s ≡ plainSealPacket c s)
-  unfolding sealed
-  plain-seal s = (rw zeros-fit, rw (zeros-fit, same-remainder s))
+  plain-seal s = (rw zeros-fit, rw (zeros-fit, sealed-is c s, same-remainder s))
 
 pub plain-repair : (r : Repair) → r .crc .init ≡ 0 → r .crc .xorout ≡ 0 → (repairCall r ≡ plainRepairCall r) × (repairOutput r ≡ plainRepairOutput r)
 unfolding passesBoth candidates

@@ -9,8 +9,8 @@ use Rattle.base.specs.Outcome.{Outcome, refused, accepted, Condition, pick, jud
 use Rattle.poly.specs.Polynomial.{rem}
 use Rattle.poly.specs.declared.Generator.{Generator}
 use Rattle.packet.specs.Packet.{bits, polynomial, bytes, flips}
-use Rattle.crc.specs.Calls.{packetConditions}
 use Rattle.packet.specs.declared.Crc.{Crc}
+use Rattle.crc.specs.Calls.{packetConditions}
 use Rattle.checksum.specs.Checksum.{passes}
 use Rattle.patterns.specs.Listing.{listing, sift}
 use Rattle.verdicts.specs.Verdicts.{Said, intact, settled, mended}

@@ -10,8 +10,8 @@ use Rattle.base.proofs.JudgeLaws.{applied, judge-accepted}
 use Rattle.poly.specs.Polynomial.{degree}
 use Rattle.poly.proofs.GeneratorLaws.{fit-accepted}
 use Rattle.packet.specs.Packet.{Bytes, bits, unfitLength, crcOf}
-use Rattle.crc.specs.Calls.{sealPacket}
 use Rattle.packet.proofs.PacketLaws.{fit-length}
+use Rattle.crc.specs.Calls.{sealPacket}
 use Rattle.crc.proofs.SealLaws.{sealed-length, sealed-bytes}
 use Rattle.checksum.specs.Checksum.{unfitRange, stamped}
 use Rattle.checksum.specs.Calls.{stampConditions, stampCall, stampPacket}

@@ -91,6 +91,7 @@ fn judge_make(generator: u64, init: u64, xorout: u64, check: Check, len: usize) 
     Judgement::Passed
 }
 
+// Makes a packet from a seed. The answer is the final state.
 pub fn make(
     generator: u64,
     init: u64,

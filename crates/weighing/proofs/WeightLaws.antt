@@ -13,7 +13,7 @@ use Rattle.base.specs.Lists.{All, none, each, Ascending, ends, next}
 use Rattle.base.proofs.ListLaws.{ascending-all, ascending-above}
 use Rattle.base.proofs.XorLaws.{mod-two-lt, xor-power}
 use Rattle.packet.specs.Packet.{bits, bitAt, flip, flips}
-use Rattle.packet.proofs.FlipLaws.{flip-length, flips-nil, flips-cons, bitAt-flip-other}
+use Rattle.packet.proofs.FlipLaws.{flip-is, flip-length, flips-nil, flips-cons, bitAt-flip-other}
 use Rattle.checksum.specs.Checksum.{total, range}
 use Rattle.checksum.specs.Shares.{share}
 use Rattle.checksum.proofs.RangeLaws.{total-range-set}
@@ -31,13 +31,14 @@ weigh t t′ c b v (suc (suc d)) w h e f = absurd (omega arith)
 
 pub total-flip : (a e : ℕ) (s : List ℕ) (p : ℕ) → e ≤ length s
     → total (range a e (flip s p)) + bitAt s p * weight a e s p ≡ total (range a e s) + (1 - bitAt s p) * weight a e s p
-unfolding flip bitAt weight
+unfolding bitAt weight
 total-flip a e s p he =
     let i = length s - 1 - p / 8 in
     let x = getD s i 0 in
-    weigh (total (range a e s)) _ (share a e i) x (bitXor x (2 ^ (p % 8))) (x / 2 ^ (p % 8) % 2) (2 ^ (p % 8)) (mod-two-lt (x / 2 ^ (p % 8)))
+    rw (flip-is s p)
+    (weigh (total (range a e s)) _ (share a e i) x (bitXor x (2 ^ (p % 8))) (x / 2 ^ (p % 8) % 2) (2 ^ (p % 8)) (mod-two-lt (x / 2 ^ (p % 8)))
     (total-range-set a e i (bitXor x (2 ^ (p % 8))) s he)
-    (xor-power x (p % 8))
+    (xor-power x (p % 8)))
 
 -- several bits
 

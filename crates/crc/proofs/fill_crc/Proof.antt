@@ -1,12 +1,8 @@
 -- `fill_crc` seals: the remainder is XORed into the last bits.
-use mathlib.Core.Path.{sym, ap, _∙_}
-use Prim.Native.Nat.{ℕ}
 use native.Mathlib.Omega.{arith}
 use borrow.Author.Needs.{needs}
-use lib.Bits.{bitXor}
-use lib.ListN.{length}
-use Rattle.packet.specs.Packet.{polynomial, bytes}
-use Rattle.crc.proofs.SealLaws.{sealed-is}
+use lib.Bits.{xor-zero-r}
+use Rattle.crc.proofs.SealLaws.{sealed-by}
 use Rattle.crc.proofs.fill_crc.Statement.{statement}
 use Rattle.crc.proofs.fill_crc.Tie as tie
 
@@ -18,8 +14,7 @@ returns c =
     let add = c .before .before in
     let left = add .before .before in
     let a = left .before .before .before .args in
-    let q = a .packet .now in
-    add .add-low .ensures ∙ ap (λ (x : ℕ). bytes (length q) (bitXor (polynomial q) x)) (left .remainder-of .ensures) ∙ sym (sealed-is (a .crc) q)
+    sealed-by (a .crc) (a .packet .now) (add .add-low .ensures) (omega (arith, left .remainder-of .ensures, xor-zero-r (left .remainder-of .result)))
 
 pub fill-crc-spec : {M : Type 1} → statement M
 fill-crc-spec =
