@@ -8,10 +8,10 @@ use std::ops::Range;
 /// number will do for its field. Any other accepted range with start = end says the same. So take care that a range that was computed
 /// is not empty by mistake: neither it nor any field with it is refused.
 ///
-/// Without a checksum the estimate for noise is not divided by 32,768. With [`CCITT`](crate::CCITT) and 16 bytes 193 of 100,000 packets of noise
-/// were repaired at N = 1, and 8,068 at N = 2; and 1 in 2^n is even said to be intact. With four flips, at N = 2, 3,272 of 20,000 were
-/// falsely repaired in 16 bytes (24 of 100,000 with a checksum) and 940 of 20,000 in 64 (288 of 100,000); with three, at N = 1, 740 of
-/// 100,000 in 16 bytes and 1,212 of 10,000 in 512. Take N = 1 there.
+/// Without a checksum the estimate for noise is not divided by 32,768. With [`CCITT`](crate::CCITT) and 16 bytes 193 of 100,000
+/// packets of noise were repaired at N = 1, and 8,068 at N = 2; and 1 in 2^n is even said to be intact. With four flips, at N = 2, 3,272
+/// of 20,000 were falsely repaired in 16 bytes (24 of 100,000 with a checksum) and 940 of 20,000 in 64 (288 of 100,000); with three, at
+/// N = 1, 740 of 100,000 in 16 bytes and 1,212 of 10,000 in 512. Take N = 1 there.
 pub const NO_CHECKSUM: Range<usize> = 0..0;
 
 /// The remainder of a packet. Refused by 1, 2, 11.
