@@ -202,11 +202,13 @@
  *
  * Drop-outs of zeros are worse than noise. Where a recording puts zeros in the
  * place of lost bytes, the field may be among them, and a field of zero asks for
- * no sum: such packets are repaired falsely far more often. A packet of zeros
- * alone is even RANGQODA_INTACT by a CRC whose values are 0, such as
- * CRC-16/XMODEM. So prefer a CRC with an initial value, leave packets of zeros
- * out before they come to a repair, and where the sender always stamps, hold a
- * repair that ends in a field of zero for doubtful.
+ * no sum: of 40,000 packets of 64 bytes whose last 9 to 60 bytes became zeros,
+ * 1,475 were repaired falsely at N = 2 and 311 at N = 1. A packet of zeros alone
+ * is even RANGQODA_INTACT by a CRC whose values are 0, such as CRC-16/XMODEM; an
+ * initial value helps there, and not where a part of the packet is left. So
+ * prefer a CRC with an initial value, leave packets of zeros out before they come
+ * to a repair, and where the sender always stamps, hold a repair that ends in a
+ * field of zero for doubtful.
  *
  *
  * How long it takes
@@ -234,10 +236,10 @@
  * searches until its next record or the end of the list.
  *
  * Of an intact packet a repair spends nearly all its time on the tables.
- * Remainder and sum need none, and take 0.2 microseconds for 64 bytes. So take
- * them first, and repair only what is damaged: the answer is the same, and a
- * stream with damage in one packet of twenty goes some 15 times as fast. With a
- * range from 0 to end and a field in it (or without a checksum, by the remainder
+ * Remainder and sum need none, and take 0.2 microseconds for 64 bytes and 1.8 for
+ * 512. So take them first, and repair only what is damaged: the answer is the
+ * same, and a stream with damage in one packet of twenty goes 11 to 21 times as
+ * fast. With a range from 0 to end and a field in it (or without a checksum, by the remainder
  * alone):
  *
  *   uint64_t left;

@@ -70,8 +70,9 @@
 //! of repairs, and hold these for doubtful where many verdicts are [`Verdict::None`].
 //!
 //! *Drop-outs of zeros* are worse still. Where a recording puts zeros in the place of lost bytes, the field may be among them, and a
-//! field of zero asks for no sum: such packets are repaired falsely far more often than noise. A packet of zeros alone is even
-//! [`Verdict::Intact`] by a CRC whose values are 0, such as CRC-16/XMODEM. So prefer a CRC with an initial value, leave packets of
+//! field of zero asks for no sum: of 40,000 packets of 64 bytes whose last 9 to 60 bytes became zeros, 1,475 were repaired falsely at
+//! N = 2 and 311 at N = 1. A packet of zeros alone is even [`Verdict::Intact`] by a CRC whose values are 0, such as CRC-16/XMODEM; an
+//! initial value helps there, and not where a part of the packet is left. So prefer a CRC with an initial value, leave packets of
 //! zeros out before they come to a repair, and where the sender always stamps, hold a repair that ends in a field of zero for doubtful.
 //!
 //! # How long it takes
@@ -87,8 +88,8 @@
 //! next record or the end of the list.
 //!
 //! Of an intact packet a repair spends nearly all its time on the tables. [`remainder`] and [`sum`] need none, and take 0.2
-//! microseconds for 64 bytes. So take them first, and repair only what is damaged: the answer is the same, and a stream with damage in
-//! one packet of twenty goes some 15 times as fast.
+//! microseconds for 64 bytes and 1.8 for 512. So take them first, and repair only what is damaged: the answer is the same, and a stream
+//! with damage in one packet of twenty goes 11 to 21 times as fast.
 //!
 //! ```
 //! use rangqoda::{catalogue::CRC_16_IBM_3740 as CRC, make, remainder, sum, Refusal, Tables, Verdict};

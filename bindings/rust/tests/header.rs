@@ -38,6 +38,9 @@ fn the_version() {
     let version = ["MAJOR", "MINOR", "PATCH"].map(|part| defined[format!("VERSION_{part}").as_str()].as_str());
     assert_eq!(version.join("."), rangqoda::VERSION);
     assert_eq!(rangqoda::VERSION, env!("CARGO_PKG_VERSION"));
+    let changes = include_str!("../../../CHANGELOG.md");
+    let newest = changes.lines().find_map(|line| line.strip_prefix("## ")).expect("an entry");
+    assert_eq!(newest.split(' ').next(), Some(rangqoda::VERSION));
 }
 
 #[test]

@@ -7,7 +7,7 @@ use Prim.Native.Nat.{ℕ}
 use native.Mathlib.Omega.{arith}
 use borrow.Author.Tests.{eqb-true}
 use lib.Dec.{eqb}
-use Rattle.base.specs.Outcome.{Outcome, refused, accepted, Condition, pick, judge}
+use Rattle.base.specs.Outcome.{Outcome, refused, accepted, Condition, pick, judge, earlier}
 use Rattle.base.specs.Refusals.{number}
 use Rattle.base.specs.Judged.{judgement, judged}
 use Rattle.base.specs.declared.Refusal.{Refusal}
@@ -19,11 +19,6 @@ use Rattle.base.proofs.Cases.{by-test}
 abbrev pub applied : ℕ → List Condition → Bool
 applied k [] = false
 applied k (t ∷ ts) = pick (eqb k (t .number)) (t .applies) (applied k ts)
-
--- the conditions that are tested before that of number k
-abbrev pub earlier : ℕ → List Condition → List Condition
-earlier k [] = []
-earlier k (t ∷ ts) = pick (eqb k (t .number)) [] (t ∷ earlier k ts)
 
 module _ {A : Type 0} where
   pub refused-number : {k m : ℕ} → _≡_ {A = Outcome A} (refused k) (refused m) → k ≡ m

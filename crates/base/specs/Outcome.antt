@@ -3,6 +3,7 @@
 use Prim.Native.Nat.{ℕ}
 use mathlib.Core.Bool.{Bool, true, false}
 use mathlib.Core.List.{List, [], _∷_}
+use lib.Dec.{eqb}
 
 -- an answer: the number of a condition, or a value
 pub data Outcome (A : Type 0) : Type 0 where
@@ -26,3 +27,8 @@ module _ {R : Type 0} where
   abbrev pub judge : List Condition → (ℕ → R) → R → R
   judge [] turned done = done
   judge (t ∷ ts) turned done = pick (t .applies) (turned (t .number)) (judge ts turned done)
+
+-- of some conditions those that are tested before that of number k
+abbrev pub earlier : ℕ → List Condition → List Condition
+earlier k [] = []
+earlier k (t ∷ ts) = pick (eqb k (t .number)) [] (t ∷ earlier k ts)

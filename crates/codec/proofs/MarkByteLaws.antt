@@ -8,13 +8,13 @@ use lib.Dec.{ltb}
 use lib.ListN.{length, getD, take, drop, replicate, length-append, length-replicate}
 use borrow.Author.Tests.{eq-eqb, ne-eqb, le-leb, lt-leb}
 use Rattle.base.proofs.Cases.{by-test, by-equal}
-use Rattle.patterns.specs.Patterns.{mostPositions, Place, start, ended, after}
+use Rattle.patterns.specs.Patterns.{mostPositions, Point, start, ended, after}
 use Rattle.patterns.specs.Listing.{ascending}
 use Rattle.patterns.specs.Marks.{unfitPattern, unfitMark}
 use Rattle.patterns.specs.Records.{recordOf, longestRecord}
 use Rattle.patterns.proofs.PageLaws.{record-length}
 use Rattle.patterns.proofs.RecordLaws.{record-back}
-use Rattle.codec.specs.Marks.{malformed, placeByKind, placeOfBytes, NoMark, other-length, other-first, padded, markBytes}
+use Rattle.codec.specs.Marks.{malformed, placeByKind, pointOfBytes, NoMark, other-length, other-first, padded, markBytes}
 
 -- ---- bytes that are no mark ----
 
@@ -24,8 +24,8 @@ unfolding unfitPattern ascending
 malformed-unfit l limit =
     by-test (ltb limit 2) (λ h. rw h) (λ h. rw h (by-test (ltb 0 l) (λ k. rw k) (λ k. rw k)))
 
-pub no-mark-malformed : {s : List ℕ} → NoMark s → placeOfBytes s ≡ malformed
-unfolding placeOfBytes
+pub no-mark-malformed : {s : List ℕ} → NoMark s → pointOfBytes s ≡ malformed
+unfolding pointOfBytes
 no-mark-malformed {s} (other-length h) = rw (ne-eqb (length s) longestRecord h)
 no-mark-malformed {s} (other-first above below) =
     by-equal (length s) longestRecord
@@ -56,7 +56,7 @@ pub padded-length : (s : List ℕ) → length s ≤ longestRecord → length (pa
 padded-length s h = simp (length-append, length-replicate) (omega arith)
 
 -- of a mark's pattern, not more positions than the bytes have room for
-pub data Short : Place → Type 0 where
+pub data Short : Point → Type 0 where
   at-start : Short start
   at-end : Short ended
   behind : {ps : List ℕ} → length ps ≤ mostPositions → Short (after ps)
@@ -69,8 +69,8 @@ after-record ps t h =
     let b : length ps ≡ 255 → ⊥ = λ e. omega arith in
     rw (ne-eqb (length ps) 254 a, ne-eqb (length ps) 255 b, le-leb (length ps) mostPositions h) (ap after (record-back ps t))
 
-pub read-back : {p : Place} → Short p → placeOfBytes (markBytes p) ≡ p
-unfolding placeOfBytes markBytes
+pub read-back : {p : Point} → Short p → pointOfBytes (markBytes p) ≡ p
+unfolding pointOfBytes markBytes
 read-back at-start = refl
 read-back at-end = refl
 read-back (behind {ps = ps} h) =

@@ -6,7 +6,7 @@ use native.Mathlib.Omega.{arith}
 use lib.ListN.{length, take, drop, set, length-append, length-drop, length-set, drop-of-length-le}
 use lib.Seq.{set-split, take-at, drop-at, append-snoc, length-take-le, take-suc-set}
 use borrow.Rule.Slice.PartMut.{midOf, postOf, putMid, mid-len, same-len-mid}
-use Rattle.packet.specs.Packet.{bytes}
+use Rattle.packet.specs.Packet.{bytesOf}
 use Rattle.packet.proofs.PacketLaws.{length-bytes}
 use Rattle.patterns.specs.Patterns.{mostPositions}
 use Rattle.patterns.specs.Records.{recordOf, longestRecord}
@@ -16,14 +16,14 @@ use Rattle.codec.specs.Verdicts.{verdictLength, laid}
 use Rattle.codec.proofs.MarkByteLaws.{padded-length}
 
 -- a turn of the loop that writes a number from its last byte on
-pub number-turn : (s : List ℕ) (i left : ℕ) → i < length s → bytes i (left / 256) ++ drop i (set s i (left % 256)) ≡ bytes (suc i) left ++ drop (suc i) s
-unfolding bytes
+pub number-turn : (s : List ℕ) (i left : ℕ) → i < length s → bytesOf i (left / 256) ++ drop i (set s i (left % 256)) ≡ bytesOf (suc i) left ++ drop (suc i) s
+unfolding bytesOf
 number-turn s i left h =
     let n : i ≤ length s = omega arith in
-    ap (λ (t : List ℕ). bytes i (left / 256) ++ t)
+    ap (λ (t : List ℕ). bytesOf i (left / 256) ++ t)
     (ap (drop i) (set-split s i (left % 256) h)
     ∙ drop-at (take i s) (left % 256 ∷ drop (suc i) s) i (length-take-le i s n))
-    ∙ sym (append-snoc (bytes i (left / 256)) (left % 256) (drop (suc i) s))
+    ∙ sym (append-snoc (bytesOf i (left / 256)) (left % 256) (drop (suc i) s))
 
 -- ---- a verdict in parts: its kind, then a number in eight bytes, then a record ----
 
@@ -55,4 +55,4 @@ module _ (l : List ℕ) (x : ℕ) (full : length l ≡ verdictLength) where
 pub laid-length : (kind count : ℕ) (ps : List ℕ) → length ps ≤ mostPositions → length (laid kind count ps) ≡ verdictLength
 laid-length kind count ps h =
     let n : length (recordOf ps) ≤ longestRecord = omega (arith, record-length ps) in
-    omega (arith, length-append (bytes 8 count) (padded (recordOf ps)), length-bytes 8 count, padded-length (recordOf ps) n)
+    omega (arith, length-append (bytesOf 8 count) (padded (recordOf ps)), length-bytes 8 count, padded-length (recordOf ps) n)

@@ -6,23 +6,23 @@ use mathlib.Core.List.{List, [], _∷_, _++_}
 use lib.Dec.{eqb, leb}
 use lib.ListN.{length, getD, replicate}
 use Rattle.base.specs.Outcome.{pick}
-use Rattle.patterns.specs.Patterns.{mostPositions, Place, start, ended, after}
+use Rattle.patterns.specs.Patterns.{mostPositions, Point, start, ended, after}
 use Rattle.patterns.specs.Records.{recordOf, longestRecord, recordIn}
 
 -- what bytes that are no mark stand for: no set holds a position twice, so condition 7 refuses it, in its place among the conditions
-abbrev pub malformed : Place
+abbrev pub malformed : Point
 malformed = after (0 ∷ 0 ∷ [])
 
 -- the mark that bytes of the right number give, by the first of them
-abbrev pub placeByKind : List ℕ → Place
+abbrev pub placeByKind : List ℕ → Point
 placeByKind s =
     pick (eqb (getD s 0 0) 254) start
     (pick (eqb (getD s 0 0) 255) ended
     (pick (leb (getD s 0 0) mostPositions) (after (recordIn s)) malformed))
 
 -- the mark that bytes give
-unfoldable pub placeOfBytes : List ℕ → Place
-placeOfBytes s = pick (eqb (length s) longestRecord) (placeByKind s) malformed
+unfoldable pub pointOfBytes : List ℕ → Point
+pointOfBytes s = pick (eqb (length s) longestRecord) (placeByKind s) malformed
 
 -- bytes that are no mark: more or fewer than a mark has, or with a first byte above the counts of positions and below FEh
 pub data NoMark (s : List ℕ) : Type 0 where
@@ -34,7 +34,7 @@ abbrev pub padded : List ℕ → List ℕ
 padded s = s ++ replicate (longestRecord - length s) 0
 
 -- the bytes of a mark
-unfoldable pub markBytes : Place → List ℕ
+unfoldable pub markBytes : Point → List ℕ
 markBytes start = padded (254 ∷ [])
 markBytes ended = padded (255 ∷ [])
 markBytes (after ps) = padded (recordOf ps)

@@ -4,7 +4,7 @@ use mathlib.Core.List.{List, [], _∷_, _++_}
 use lib.Dec.{eqb}
 use lib.ListN.{length, getD}
 use Rattle.base.specs.Outcome.{pick}
-use Rattle.packet.specs.Packet.{bytes}
+use Rattle.packet.specs.Packet.{bytesOf}
 use Rattle.patterns.specs.Records.{recordOf, longestRecord}
 use Rattle.verdicts.specs.Verdicts.{Said, intact, repaired, several, nothing}
 use Rattle.codec.specs.Marks.{padded}
@@ -15,7 +15,7 @@ verdictLength = 9 + longestRecord
 
 -- a kind, a number in eight bytes, high byte first, and a record
 abbrev pub laid : ℕ → ℕ → List ℕ → List ℕ
-laid kind count ps = kind ∷ (bytes 8 count ++ padded (recordOf ps))
+laid kind count ps = kind ∷ (bytesOf 8 count ++ padded (recordOf ps))
 
 -- the bytes of a verdict; where it has no pattern, zeros stand in its place, which are the record of no positions
 unfoldable pub verdictBytes : Said → List ℕ

@@ -8,11 +8,11 @@ ghost use mathlib.Core.Path.{_≡_};
 ghost use mathlib.Core.List.{[], _∷_};
 ghost use Prim.Native.Nat.{_≤_};
 ghost use lib.ListN.{length, drop, replicate};
-ghost use Rattle.packet.specs.Packet.{bytes};
-ghost use Rattle.patterns.specs.Patterns.{mostPositions, positions, placeOf};
+ghost use Rattle.packet.specs.Packet.{bytesOf};
+ghost use Rattle.patterns.specs.Patterns.{mostPositions, positions, pointOf};
 ghost use Rattle.patterns.specs.Records.{recordOf, longestRecord, positionsIn};
 ghost use Rattle.verdicts.specs.Verdicts.{said};
-ghost use Rattle.codec.specs.Marks.{placeOfBytes, malformed, padded, markBytes};
+ghost use Rattle.codec.specs.Marks.{pointOfBytes, malformed, padded, markBytes};
 ghost use Rattle.codec.specs.Verdicts.{verdictLength, laid, verdictBytes, publishCode};
 
 // A mark's bytes: how many, and the first of them where it has no pattern.
@@ -42,7 +42,7 @@ const NOTHING: u32 = 2;
 
 // A mark that no length and no limit makes fit: what bytes that are no mark are taken for.
 fn no_mark() -> Mark
-    ensures { λ r. ⌜ placeOf r ≡ malformed ⌝ }
+    ensures { λ r. ⌜ pointOf r ≡ malformed ⌝ }
 {
     Mark::After(Pattern::Two(0, 0))
 }
@@ -58,7 +58,7 @@ fn read_pattern(bytes: &[u8], count: usize) -> Pattern
 }
 
 pub fn read_mark(bytes: &[u8]) -> Mark
-    ensures { λ r. ⌜ placeOf r ≡ placeOfBytes (now (bytes .entry)) ⌝ }
+    ensures { λ r. ⌜ pointOf r ≡ pointOfBytes (now (bytes .entry)) ⌝ }
 {
     if bytes.len() != MARK_BYTES {
         return no_mark();
@@ -116,7 +116,7 @@ fn put_kind(kind: u8, bytes: &mut [u8])
 
 pub fn put_mark(m: Mark, bytes: &mut [u8])
     requires { ⌜ length (now bytes) ≡ longestRecord ⌝ }
-    ensures { λ _. ⌜ now (bytes .exit) ≡ markBytes (placeOf m) ⌝ }
+    ensures { λ _. ⌜ now (bytes .exit) ≡ markBytes (pointOf m) ⌝ }
 {
     match m {
         Mark::Start => put_kind(START, bytes),
@@ -127,7 +127,7 @@ pub fn put_mark(m: Mark, bytes: &mut [u8])
 
 // A number into a slice, high byte first.
 fn put_number(value: u64, out: &mut [u8])
-    ensures { λ _. ⌜ now (out .exit) ≡ bytes (length (now (out .entry))) value ⌝ }
+    ensures { λ _. ⌜ now (out .exit) ≡ bytesOf (length (now (out .entry))) value ⌝ }
 {
     let mut left = value;
     let mut i = out.len();

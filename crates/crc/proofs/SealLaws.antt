@@ -13,7 +13,7 @@ use Rattle.base.proofs.XorLaws.{xor-cancel}
 use Rattle.poly.specs.Polynomial.{rem}
 use Rattle.poly.specs.Fit.{Divisor}
 use Rattle.poly.proofs.DivisionLaws.{rem-small}
-use Rattle.packet.specs.Packet.{Bytes, bits, polynomial, bytes, remainder, bitAt}
+use Rattle.packet.specs.Packet.{Bytes, bits, polynomial, bytesOf, remainder, bitAt}
 use Rattle.packet.specs.declared.Crc.{Crc}
 use Rattle.packet.proofs.PacketLaws.{length-bytes, bytes-suc, polynomial-bytes, bytes-polynomial}
 use Rattle.packet.proofs.FlipLaws.{polynomial-lt, byte-power, bit-coefficient}
@@ -26,23 +26,23 @@ single b zero h = h
 single b (suc i) h = omega arith
 
 -- what `bytes` writes are bytes
-pub bytes-are : (k v : ℕ) → Bytes (bytes k v)
-bytes-are zero v i = unfold bytes in omega arith
+pub bytes-are : (k v : ℕ) → Bytes (bytesOf k v)
+bytes-are zero v i = unfold bytesOf in omega arith
 bytes-are (suc k) v i =
     rw (bytes-suc k v)
     (by-order i k
-    (λ h. rw (List·getD-append (bytes k (v / 256)) (v % 256 ∷ []) 0 i (rw (length-bytes k (v / 256)) h)) (bytes-are k (v / 256) i))
+    (λ h. rw (List·getD-append (bytesOf k (v / 256)) (v % 256 ∷ []) 0 i (rw (length-bytes k (v / 256)) h)) (bytes-are k (v / 256) i))
     (λ h.
-    let e : i ≡ length (bytes k (v / 256)) + (i - k) = omega (arith, length-bytes k (v / 256)) in
-    rw (e, getD-append-add (bytes k (v / 256)) (v % 256 ∷ []) (i - k) 0) (single (v % 256) (i - k) (omega arith))))
+    let e : i ≡ length (bytesOf k (v / 256)) + (i - k) = omega (arith, length-bytes k (v / 256)) in
+    rw (e, getD-append-add (bytesOf k (v / 256)) (v % 256 ∷ []) (i - k) 0) (single (v % 256) (i - k) (omega arith))))
 
-pub sealed-is : (c : Crc) (s : List ℕ) → sealed c s ≡ bytes (length s) (bitXor (polynomial s) (remainder c s))
+pub sealed-is : (c : Crc) (s : List ℕ) → sealed c s ≡ bytesOf (length s) (bitXor (polynomial s) (remainder c s))
 unfolding sealed
-sealed-is c s = ap (bytes (length s)) (search (xor-comm, xor-zero-r))
+sealed-is c s = ap (bytesOf (length s)) (search (xor-comm, xor-zero-r))
 
 -- what is left once the remainder is added
-pub sealed-by : (c : Crc) (s : List ℕ) {t : List ℕ} {r : ℕ} → t ≡ bytes (length s) (bitXor (polynomial s) r) → r ≡ remainder c s → t ≡ sealed c s
-sealed-by c s added e = added ∙ ap (λ (x : ℕ). bytes (length s) (bitXor (polynomial s) x)) e ∙ sym (sealed-is c s)
+pub sealed-by : (c : Crc) (s : List ℕ) {t : List ℕ} {r : ℕ} → t ≡ bytesOf (length s) (bitXor (polynomial s) r) → r ≡ remainder c s → t ≡ sealed c s
+sealed-by c s added e = added ∙ ap (λ (x : ℕ). bytesOf (length s) (bitXor (polynomial s) x)) e ∙ sym (sealed-is c s)
 
 module _ (c : Crc) (d : Divisor (c .generator .degree) (c .generator .coefficients)) (s : List ℕ) (b : Bytes s) (long : c .generator .degree ≤ bits s) where
   n : ℕ
@@ -79,7 +79,7 @@ module _ (c : Crc) (d : Divisor (c .generator .degree) (c .generator .coefficien
 
   -- sealing a packet of remainder 0 changes nothing
   pub sealed-same : remainder c s ≡ 0 → sealed c s ≡ s
-  sealed-same e = sealed-is c s ∙ ap (bytes (length s)) (ap (bitXor (polynomial s)) e ∙ xor-zero-r (polynomial s)) ∙ bytes-polynomial s b
+  sealed-same e = sealed-is c s ∙ ap (bytesOf (length s)) (ap (bitXor (polynomial s)) e ∙ xor-zero-r (polynomial s)) ∙ bytes-polynomial s b
 
   -- the terms from x^n on stay
   pub sealed-high : polynomial (sealed c s) / 2 ^ c .generator .degree ≡ polynomial s / 2 ^ c .generator .degree
@@ -113,4 +113,4 @@ module _ (c : Crc) (d : Divisor (c .generator .degree) (c .generator .coefficien
       ∙ sym (remainder-sum c d s t (sym l))
       ∙ ap (bitXor (remainder c s)) z
       ∙ xor-zero-r (remainder c s) in
-      sym (bytes-polynomial t bt) ∙ ap₂ bytes (sym l) (sym (xor-cancel (polynomial s) (polynomial t)) ∙ ap (bitXor (polynomial s)) left) ∙ sym (sealed-is c s)
+      sym (bytes-polynomial t bt) ∙ ap₂ bytesOf (sym l) (sym (xor-cancel (polynomial s) (polynomial t)) ∙ ap (bitXor (polynomial s)) left) ∙ sym (sealed-is c s)

@@ -6,7 +6,7 @@ use lib.ListN.{length}
 use Rattle.base.specs.Outcome.{Outcome, refused, accepted, Condition, when, judge}
 use Rattle.base.specs.Refusals.{number}
 use Rattle.poly.specs.Generators.{unfit}
-use Rattle.packet.specs.Packet.{polynomial, bytes, bits, unfitLength, unfitValues, remainder}
+use Rattle.packet.specs.Packet.{polynomial, bytesOf, bits, unfitLength, unfitValues, remainder}
 use Rattle.packet.specs.declared.Crc.{Crc}
 use Rattle.crc.specs.declared.RemainderAnswer.{RemainderAnswer}
 use Rattle.crc.specs.declared.RemainderAnswer.the-variants as RemainderAnswer-cases
@@ -15,7 +15,7 @@ use Rattle.crc.specs.declared.SealAnswer.the-variants as SealAnswer-case
 
 -- the packet whose last n bits are set so that its remainder is 0; SealLaws has that it is the only one
 unfoldable pub sealed : Crc → List ℕ → List ℕ
-sealed c s = bytes (length s) (bitXor (polynomial s) (remainder c s))
+sealed c s = bytesOf (length s) (bitXor (polynomial s) (remainder c s))
 
 -- remainder and seal are refused by 1, 2 and 11
 abbrev pub packetConditions : Crc → ℕ → List Condition

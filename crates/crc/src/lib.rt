@@ -10,7 +10,7 @@ ghost use Prim.Native.Nat.{_*_};
 ghost use lib.ListN.{length};
 ghost use lib.Bits.{bitXor};
 ghost use Rattle.base.specs.Judged.{judgement, judged};
-ghost use Rattle.packet.specs.Packet.{Bytes, polynomial, bytes, crcOf};
+ghost use Rattle.packet.specs.Packet.{Bytes, polynomial, bytesOf, crcOf};
 ghost use Rattle.packet.specs.Reading.{Readable};
 ghost use Rattle.crc.specs.Calls.{
   packetConditions,
@@ -35,7 +35,7 @@ pub enum SealAnswer {
 // XORs a number into the packet's last bytes.
 fn add_low(packet: &mut [u8], value: u64)
     requires { ⌜ Bytes (now packet) ⌝ }
-    ensures { λ _. ⌜ now (packet .exit) ≡ bytes (length (now (packet .entry))) (bitXor (polynomial (now (packet .entry))) value) ⌝ }
+    ensures { λ _. ⌜ now (packet .exit) ≡ bytesOf (length (now (packet .entry))) (bitXor (polynomial (now (packet .entry))) value) ⌝ }
 {
     let mut left = value;
     let mut i = packet.len();

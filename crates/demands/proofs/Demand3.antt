@@ -20,7 +20,7 @@ use Rattle.packet.proofs.RemainderLaws.{remainder-lt}
 use Rattle.checksum.specs.declared.Check.{Check}
 use Rattle.tables.specs.Tables.{stepTable, firstTable}
 use Rattle.tables.proofs.TableLaws.{length-stepTable, length-firstTable, fit-tables, tables-right, not-wrong}
-use Rattle.patterns.specs.Patterns.{Place, start, ended}
+use Rattle.patterns.specs.Patterns.{Point, start, ended}
 use Rattle.patterns.specs.Order.{before}
 use Rattle.patterns.specs.StrictOrder.{Sorted}
 use Rattle.patterns.specs.Listing.{syndrome, listing}
@@ -79,7 +79,7 @@ module _ (c : Crc) (k : Check) (limit : ℕ) (s : List ℕ) (supposed : Supposed
 
   -- a page call with right tables, room for the longest record and a fit mark is accepted, so what was said is not about
   -- nothing
-  pub page-accepted : (lent : Lending) → Roomy c lent → (m : Place) → unfitMark (bits s) limit m ≡ false
+  pub page-accepted : (lent : Lending) → Roomy c lent → (m : Point) → unfitMark (bits s) limit m ≡ false
       → pageCall (requestWith (c .generator .coefficients) (bits s) limit (remainder c s) lent) m
       ≡ accepted (pageOf (remaining (packetList c limit s) m) (length (lent .output)))
   page-accepted lent roomy m fit =
@@ -94,7 +94,7 @@ module _ (c : Crc) (k : Check) (limit : ℕ) (s : List ℕ) (supposed : Supposed
   pages-accepted lendings all = sequence-accepted (c .generator .coefficients) (bits s) limit (remainder c s) lendings (accepting all)
     where
       accepting : {ls : List Lending} → All (Roomy c) ls
-          → All (λ (lent : Lending). (m : Place) → unfitMark (bits s) limit m ≡ false
+          → All (λ (lent : Lending). (m : Point) → unfitMark (bits s) limit m ≡ false
           → (p : Page) × (pageCall (requestWith (c .generator .coefficients) (bits s) limit (remainder c s) lent) m ≡ accepted p)) ls
       accepting none = none
       accepting (each {x = lent} h hs) = each (λ m fit. (pageOf (remaining (packetList c limit s) m) (length (lent .output)), page-accepted lent h m fit)) (accepting hs)

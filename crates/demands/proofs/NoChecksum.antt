@@ -10,8 +10,8 @@ use borrow.Author.Tests.{lt-ltb, le-ltb, eq-eqb, ne-eqb, eqb-true}
 use lib.Dec.{eqb}
 use lib.ListN.{length}
 use Rattle.base.specs.Lists.{In, Ascending}
-use Rattle.base.specs.Outcome.{refused, accepted, judge}
-use Rattle.base.proofs.JudgeLaws.{earlier, judge-applied}
+use Rattle.base.specs.Outcome.{refused, accepted, judge, earlier}
+use Rattle.base.proofs.JudgeLaws.{judge-applied}
 use Rattle.packet.specs.Packet.{Bytes, bits, remainder, flips, difference}
 use Rattle.packet.specs.declared.Crc.{Crc}
 use Rattle.packet.proofs.PacketLaws.{fit-length}

@@ -9,7 +9,7 @@ use lib.ListN.{length, take, drop, take-append-drop, length-drop}
 use lib.Pow.{high, shr-shr}
 use lib.Seq.{take-add, drop-at, length-take-le}
 use Rattle.poly.specs.Fit.{Divisor}
-use Rattle.packet.specs.Packet.{Bytes, bits, polynomial, bytes}
+use Rattle.packet.specs.Packet.{Bytes, bits, polynomial, bytesOf}
 use Rattle.packet.specs.declared.Crc.{Crc}
 use Rattle.packet.proofs.FlipLaws.{polynomial-append, polynomial-lt, byte-power}
 use Rattle.packet.proofs.PacketLaws.{bytes-take}
@@ -48,7 +48,7 @@ front-same n e s t bs bt same agree h =
     ∙ ap (λ (x : ℕ). x / 2 ^ (k - n)) agree
     ∙ sym (split (polynomial s))
     ∙ polynomial-front e s bs in
-    sym (bytes-take t bt e (omega arith)) ∙ ap (bytes e) fronts ∙ bytes-take s bs e (omega arith)
+    sym (bytes-take t bt e (omega arith)) ∙ ap (bytesOf e) fronts ∙ bytes-take s bs e (omega arith)
 
 -- a range is a part of the first bytes
 range-front : (a e : ℕ) (s : List ℕ) → a ≤ e → e ≤ length s → range a e s ≡ drop a (take e s)

@@ -2,7 +2,7 @@
 use mathlib.Core.Path.{refl}
 use Rattle.poly.specs.Polynomial.{down, downIn, degree, degreeIn, reduce, rem, powers}
 use Rattle.poly.specs.Generators.{unfit}
-use Rattle.packet.specs.Packet.{polynomial, polynomialAfter, bytes, unfitLength, unfitValues, asRead, remainder, flip, flips}
+use Rattle.packet.specs.Packet.{polynomial, polynomialAfter, bytesOf, unfitLength, unfitValues, asRead, remainder, flip, flips}
 use Rattle.crc.specs.Calls.{sealed}
 use Rattle.tables.specs.Tables.{power, least, period, step, first}
 use Rattle.checksum.specs.Checksum.{words, folded, sumFrom, sumOf, range, fieldOf, passes, unfitRange, unfitField, withField, asWritten, stamped}
@@ -14,7 +14,7 @@ use Rattle.verdicts.specs.Verdicts.{passesBoth, candidates}
 use Rattle.demands.specs.Worked.{Worked}
 
 pub worked-rows : Worked
-unfolding down downIn degree degreeIn reduce rem powers unfit polynomial polynomialAfter bytes unfitLength unfitValues asRead remainder sealed flip flips power least period step first words folded sumFrom sumOf range fieldOf passes unfitRange unfitField withField asWritten stamped nextState byteOf yielded stateAfter made keyed lower before syndrome choose upTo sift inserted inOrder listing follows passesBoth candidates
+unfolding down downIn degree degreeIn reduce rem powers unfit polynomial polynomialAfter bytesOf unfitLength unfitValues asRead remainder sealed flip flips power least period step first words folded sumFrom sumOf range fieldOf passes unfitRange unfitField withField asWritten stamped nextState byteOf yielded stateAfter made keyed lower before syndrome choose upTo sift inserted inOrder listing follows passesBoth candidates
 worked-rows =
     record {
       row1 = refl;

@@ -8,7 +8,7 @@ use lib.ListN.{length}
 use Rattle.base.specs.Outcome.{Outcome, refused, accepted, Condition, pick, judge}
 use Rattle.poly.specs.Polynomial.{rem}
 use Rattle.poly.specs.declared.Generator.{Generator}
-use Rattle.packet.specs.Packet.{bits, polynomial, bytes, flips}
+use Rattle.packet.specs.Packet.{bits, polynomial, bytesOf, flips}
 use Rattle.packet.specs.declared.Crc.{Crc}
 use Rattle.crc.specs.Calls.{packetConditions}
 use Rattle.checksum.specs.Checksum.{passes}
@@ -34,7 +34,7 @@ plainSealCall c s = judge (without 11 (packetConditions c (bits s))) refused (ac
 
 abbrev pub plainSealPacket : Crc → List ℕ → List ℕ
 plainSealPacket c s =
-    judge (without 11 (packetConditions c (bits s))) (λ _. s) (bytes (length s) (bitXor (polynomial s) (plainRemainder (c .generator) s)))
+    judge (without 11 (packetConditions c (bits s))) (λ _. s) (bytesOf (length s) (bitXor (polynomial s) (plainRemainder (c .generator) s)))
 
 -- a repair, and again of its CRC only the generator
 module _ (r : Repair) where

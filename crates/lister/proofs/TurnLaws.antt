@@ -18,7 +18,7 @@ use Rattle.packet.proofs.PacketLaws.{fit-length}
 use Rattle.tables.specs.Tables.{stepTable, firstTable}
 use Rattle.tables.specs.Calls.{stepsAfter, firstsAfter}
 use Rattle.tables.proofs.TableLaws.{fit-tables}
-use Rattle.patterns.specs.Patterns.{Place, start, ended, after, placeOf}
+use Rattle.patterns.specs.Patterns.{Point, start, ended, after, pointOf}
 use Rattle.patterns.specs.Records.{longestRecord, patternsIn}
 use Rattle.patterns.specs.Pages.{Page}
 use Rattle.patterns.proofs.MarkLaws.{fit-limit, fit-syndrome}
@@ -52,7 +52,7 @@ listed-fit g e =
     (λ u. (u, by-order 14 (degree g) (λ h. absurd (true≢false (rw (u, lt-ltb 14 (degree g) h) at e))) (λ h. h)))
 
 -- what is due, by its case
-pub sound-listing : {due : Due} {s : Settings} {m : Mark} {count : ℕ} → due ≡ Listing s m count → Sound due → Going s (placeOf m) count
+pub sound-listing : {due : Due} {s : Settings} {m : Mark} {count : ℕ} → due ≡ Listing s m count → Sound due → Going s (pointOf m) count
 sound-listing e h = rw e at h
 
 -- what a page call answered, by its case
@@ -62,7 +62,7 @@ paged e f = sym e ∙ ap pageAnswer f
 pub page-turned-down : {r : PageAnswer} {q : Refusal} {x : Outcome Page} → pageAnswer r ≡ x → r ≡ Refused q → x ≡ refused (number q)
 page-turned-down e f = sym e ∙ ap pageAnswer f
 
-module _ {s : Settings} {m : Place} {count : ℕ} (going : Going s m count) where
+module _ {s : Settings} {m : Point} {count : ℕ} (going : Going s m count) where
   -- none of the program's conditions applies
   pub going-clear : (k : ℕ) → applied k (listConditions (s .generator) (s .bits) (s .limit) (s .syndrome)) ≡ false
   going-clear = judge-clear (listConditions (s .generator) (s .bits) (s .limit) (s .syndrome)) tt tt (going .clear)
@@ -130,7 +130,7 @@ module _ {s : Settings} {m : Place} {count : ℕ} (going : Going s m count) wher
           (λ l. let n = page-next request m p e .1 l in rw (n .1) (omega (arith, n .0, rw (n .1) at counts)))
           (λ l. rw (page-next request m p e .0 .1 (omega (arith, page-holds request m p e .1))) (omega arith)))
         where
-          turns-open : (q : Place) → NotEnded q → turnsFor s q ≡ 2 + length (ahead s q)
+          turns-open : (q : Point) → NotEnded q → turnsFor s q ≡ 2 + length (ahead s q)
           turns-open start h = refl
           turns-open ended h = absurd h
           turns-open (after ps) h = refl

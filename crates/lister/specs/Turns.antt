@@ -9,7 +9,7 @@ use Rattle.base.specs.Judged.{judged}
 use Rattle.base.specs.Refusals.{number}
 use Rattle.poly.specs.Polynomial.{degree}
 use Rattle.tables.specs.Tables.{stepTable, firstTable}
-use Rattle.patterns.specs.Patterns.{Place, start, ended, after, placeOf}
+use Rattle.patterns.specs.Patterns.{Point, start, ended, after, pointOf}
 use Rattle.patterns.specs.Marks.{remaining, unfitMark}
 use Rattle.patterns.specs.Records.{longestRecord}
 use Rattle.lines.specs.Text.{textOf, endLine, refusedLine, badLine}
@@ -40,22 +40,22 @@ printed input =
 abbrev pub wholeList : Settings → List (List ℕ)
 wholeList s = listFor (s .generator) (s .bits) (s .limit) (s .syndrome)
 
-abbrev pub ahead : Settings → Place → List (List ℕ)
+abbrev pub ahead : Settings → Point → List (List ℕ)
 ahead s mark = remaining (wholeList s) mark
 
 -- the text that is due: of a list, what follows the mark, and "end" with the number of these and of those that came before
 abbrev pub textDue : Due → List ℕ
 textDue Bad = badLine
 textDue (Refused r) = refusedLine (number r)
-textDue (Listing s mark count) = textOf (ahead s (placeOf mark)) ++ endLine (count + length (ahead s (placeOf mark)))
+textDue (Listing s mark count) = textOf (ahead s (pointOf mark)) ++ endLine (count + length (ahead s (pointOf mark)))
 
 -- the turns that it may take at most: one for the line that closes, and where the mark is not Ended one for each pattern and one more
-abbrev pub turnsFor : Settings → Place → ℕ
+abbrev pub turnsFor : Settings → Point → ℕ
 turnsFor s start = 2 + length (ahead s start)
 turnsFor s ended = 1
 turnsFor s (after ps) = 2 + length (ahead s (after ps))
 
-abbrev pub NotEnded : Place → Type 0
+abbrev pub NotEnded : Point → Type 0
 NotEnded start = Unit {0}
 NotEnded ended = ⊥
 NotEnded (after ps) = Unit {0}
@@ -63,10 +63,10 @@ NotEnded (after ps) = Unit {0}
 abbrev pub turnsDue : Due → ℕ
 turnsDue Bad = 1
 turnsDue (Refused r) = 1
-turnsDue (Listing s mark count) = turnsFor s (placeOf mark)
+turnsDue (Listing s mark count) = turnsFor s (pointOf mark)
 
 -- settings that are accepted, a mark that fits them, and the count of the patterns up to it
-pub record Going (s : Settings) (mark : Place) (count : ℕ) : Type 0 where
+pub record Going (s : Settings) (mark : Point) (count : ℕ) : Type 0 where
   pub clear : judged (listConditions (s .generator) (s .bits) (s .limit) (s .syndrome)) ≡ accepted tt
   pub fits : unfitMark (s .bits) (s .limit) mark ≡ false
   pub counted : count + length (ahead s mark) ≡ length (wholeList s)
@@ -74,7 +74,7 @@ pub record Going (s : Settings) (mark : Place) (count : ℕ) : Type 0 where
 abbrev pub Sound : Due → Type 0
 Sound Bad = Unit {0}
 Sound (Refused r) = Unit {0}
-Sound (Listing s mark count) = Going s (placeOf mark) count
+Sound (Listing s mark count) = Going s (pointOf mark) count
 
 -- the entries of each table that is used, at most those of the greatest degree, and the tables of the generator
 abbrev pub entriesFor : Due → ℕ

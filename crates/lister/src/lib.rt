@@ -11,7 +11,7 @@ ghost use Prim.Native.Nat.{ℕ, _^_, _<_, _≤_};
 ghost use lib.ListN.{length};
 ghost use Rattle.base.specs.Judged.{judgement, judged};
 ghost use Rattle.poly.specs.Polynomial.{degree};
-ghost use Rattle.patterns.specs.Patterns.{placeOf};
+ghost use Rattle.patterns.specs.Patterns.{pointOf};
 ghost use Rattle.lister.specs.declared.Due.the-variants.{Listing};
 ghost use Rattle.lister.specs.Printed.{unfitListed, listConditions, printedFor};
 ghost use Rattle.lister.specs.Turns.{
@@ -180,7 +180,7 @@ fn page_turn(
     page: &mut [u8],
     text: &mut [u8],
 ) -> Turn
-    requires { ⌜ NotEnded (placeOf mark) × Going settings (placeOf mark) count × Tabled (Listing settings mark count) (now steps) (now firsts) × HasRoom (now page) (now text) ⌝ }
+    requires { ⌜ NotEnded (pointOf mark) × Going settings (pointOf mark) count × Tabled (Listing settings mark count) (now steps) (now firsts) × HasRoom (now page) (now text) ⌝ }
     ensures { λ r. ⌜ Turned (Listing settings mark count) (now (steps .entry)) (now (firsts .entry)) (now (text .exit)) r ⌝ }
 {
     let generator = settings.generator;
@@ -211,7 +211,7 @@ fn list_turn(
     page: &mut [u8],
     text: &mut [u8],
 ) -> Turn
-    requires { ⌜ Going settings (placeOf mark) count × Tabled (Listing settings mark count) (now steps) (now firsts) × HasRoom (now page) (now text) ⌝ }
+    requires { ⌜ Going settings (pointOf mark) count × Tabled (Listing settings mark count) (now steps) (now firsts) × HasRoom (now page) (now text) ⌝ }
     ensures { λ r. ⌜ Turned (Listing settings mark count) (now (steps .entry)) (now (firsts .entry)) (now (text .exit)) r ⌝ }
 {
     match mark {

@@ -7,7 +7,7 @@ use native.Mathlib.Omega.{arith}
 use lib.ListN.{length, take, drop, length-append, length-drop}
 use lib.Seq.{take-append-seam}
 use Rattle.base.specs.Lists.{Ascending}
-use Rattle.patterns.specs.Patterns.{Place, start, ended, after, positions, placeOf}
+use Rattle.patterns.specs.Patterns.{Point, start, ended, after, positions, pointOf}
 use Rattle.patterns.specs.Order.{before}
 use Rattle.patterns.specs.Listing.{sift, follows}
 use Rattle.patterns.specs.Marks.{remaining, unfitMark}
@@ -32,21 +32,21 @@ put-front ps pos next {k} e h n asc =
     (omega arith, rw (put-take ps pos next k e n) asc)
 
 -- what follows each kind of mark
-pub from-start : (xs : List (List ℕ)) {m : Mark} → m ≡ Start → xs ≡ remaining xs (placeOf m)
-from-start xs e = sym (ap (λ (m : Mark). remaining xs (placeOf m)) e ∙ remaining-start xs)
+pub from-start : (xs : List (List ℕ)) {m : Mark} → m ≡ Start → xs ≡ remaining xs (pointOf m)
+from-start xs e = sym (ap (λ (m : Mark). remaining xs (pointOf m)) e ∙ remaining-start xs)
 
-pub from-ended : (xs : List (List ℕ)) {m : Mark} → m ≡ Ended → remaining xs (placeOf m) ≡ []
-from-ended xs e = ap (λ (m : Mark). remaining xs (placeOf m)) e ∙ remaining-ended xs
+pub from-ended : (xs : List (List ℕ)) {m : Mark} → m ≡ Ended → remaining xs (pointOf m) ≡ []
+from-ended xs e = ap (λ (m : Mark). remaining xs (pointOf m)) e ∙ remaining-ended xs
 
-pub from-after : (xs : List (List ℕ)) {m : Mark} {p : Pattern} → m ≡ After p → sift (before (positions p)) xs ≡ remaining xs (placeOf m)
+pub from-after : (xs : List (List ℕ)) {m : Mark} {p : Pattern} → m ≡ After p → sift (before (positions p)) xs ≡ remaining xs (pointOf m)
 unfolding follows
-from-after xs e = sym (ap (λ (m : Mark). remaining xs (placeOf m)) e)
+from-after xs e = sym (ap (λ (m : Mark). remaining xs (pointOf m)) e)
 
-pub after-marked : (l m : ℕ) {mark : Mark} {p : Pattern} → mark ≡ After p → Marked l m (placeOf mark) → Ascending l 0 (positions p) × (length (positions p) ≤ m)
-after-marked l m e h = subst (λ (t : Mark). Marked l m (placeOf t)) e h
+pub after-marked : (l m : ℕ) {mark : Mark} {p : Pattern} → mark ≡ After p → Marked l m (pointOf mark) → Ascending l 0 (positions p) × (length (positions p) ≤ m)
+after-marked l m e h = subst (λ (t : Mark). Marked l m (pointOf t)) e h
 
 -- a mark that condition 7 lets pass
-pub fit-mark : (l limit : ℕ) (m : Place) → unfitMark l limit m ≡ false → Marked l limit m
+pub fit-mark : (l limit : ℕ) (m : Point) → unfitMark l limit m ≡ false → Marked l limit m
 fit-mark l limit start e = tt
 fit-mark l limit ended e = tt
 fit-mark l limit (after ps) e = fit-iff l limit ps .0 e

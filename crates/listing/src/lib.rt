@@ -8,7 +8,7 @@ ghost use mathlib.Core.Path.{_≡_};
 ghost use Prim.Native.Nat.{_≤_};
 ghost use lib.ListN.{length, take};
 ghost use Rattle.base.specs.Lists.{Ascending};
-ghost use Rattle.patterns.specs.Patterns.{positions, placeOf};
+ghost use Rattle.patterns.specs.Patterns.{positions, pointOf};
 ghost use Rattle.patterns.specs.Order.{before};
 ghost use Rattle.patterns.specs.Listing.{sift};
 ghost use Rattle.patterns.specs.Marks.{remaining};
@@ -36,8 +36,8 @@ fn go_on(cursor: Cursor, pow: &[u32], first: &[u16], p: Pattern, pos: &mut [u16]
 
 // The first listed pattern that follows a mark.
 pub fn begin(cursor: Cursor, pow: &[u32], first: &[u16], mark: Mark, pos: &mut [u16]) -> Found
-    requires { ⌜ Prepared cursor (now pow) (now first) × Marked (length (now pow)) (length (now pos)) (placeOf mark) ⌝ }
-    ensures { λ r. ⌜ Told before (length (now (pow .entry))) (length (now (pos .entry))) (listedBy cursor (length (now (pow .entry))) (length (now (pos .entry)))) (remaining (listedBy cursor (length (now (pow .entry))) (length (now (pos .entry)))) (placeOf mark)) r (now (pos .exit)) ⌝ }
+    requires { ⌜ Prepared cursor (now pow) (now first) × Marked (length (now pow)) (length (now pos)) (pointOf mark) ⌝ }
+    ensures { λ r. ⌜ Told before (length (now (pow .entry))) (length (now (pos .entry))) (listedBy cursor (length (now (pow .entry))) (length (now (pos .entry)))) (remaining (listedBy cursor (length (now (pow .entry))) (length (now (pos .entry)))) (pointOf mark)) r (now (pos .exit)) ⌝ }
 {
     match mark {
         Mark::Start => cursor::meet_first(cursor, pow, first, pos),

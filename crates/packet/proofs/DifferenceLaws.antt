@@ -16,7 +16,7 @@ use Rattle.base.proofs.Cases.{by-test, by-order}
 use Rattle.base.proofs.ListLaws.{ascending-from, ascending-all}
 use Rattle.base.proofs.XorLaws.{xor-bit, xor-cancel, xor-ac}
 use Rattle.poly.specs.Polynomial.{powers}
-use Rattle.packet.specs.Packet.{Bytes, bits, polynomial, bytes, bitAt, flips, differing, difference}
+use Rattle.packet.specs.Packet.{Bytes, bits, polynomial, bytesOf, bitAt, flips, differing, difference}
 use Rattle.packet.proofs.PacketLaws.{bytes-polynomial}
 use Rattle.packet.proofs.FlipLaws.{polynomial-lt, byte-power, bit-coefficient, polynomial-flips, flips-length, flips-bytes}
 
@@ -114,7 +114,7 @@ module _ (s t : List ℕ) (bs : Bytes s) (bt : Bytes t) (same : length s ≡ len
       let e : polynomial (flips s (difference s t)) ≡ polynomial t =
       polynomial-flips s (difference s t) w bs ∙ ap (bitXor (polynomial s)) difference-powers ∙ xor-cancel (polynomial s) (polynomial t) in
       sym (bytes-polynomial (flips s (difference s t)) (flips-bytes s (difference s t) w bs))
-      ∙ ap₂ bytes (flips-length s (difference s t) ∙ same) e
+      ∙ ap₂ bytesOf (flips-length s (difference s t) ∙ same) e
       ∙ bytes-polynomial t bt
 
 -- flipping a set of positions twice changes nothing
@@ -126,7 +126,7 @@ flips-twice t ps bt h =
     let e : polynomial (flips (flips t ps) ps) ≡ polynomial t =
     polynomial-flips (flips t ps) ps v bs ∙ ap (λ (x : ℕ). bitXor x (powers ps)) (polynomial-flips t ps w bt) ∙ (simp xor-ac) in
     sym (bytes-polynomial (flips (flips t ps) ps) (flips-bytes (flips t ps) ps v bs))
-    ∙ ap₂ bytes (flips-length (flips t ps) ps ∙ flips-length t ps) e
+    ∙ ap₂ bytesOf (flips-length (flips t ps) ps ∙ flips-length t ps) e
     ∙ bytes-polynomial t bt
 
 -- ---- packets that agree from position n on

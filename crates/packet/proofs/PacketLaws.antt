@@ -11,7 +11,7 @@ use mathlib.Core.Bool.{true, false, true≢false, or-true}
 use borrow.Author.Tests.{lt-ltb, le-leb, lt-leb}
 use Rattle.base.proofs.Cases.{by-order}
 use lib.Dec.{leb, ltb}
-use Rattle.packet.specs.Packet.{Bytes, polynomial, polynomialAfter, bytes, mostBits, unfitLength, unfitValues}
+use Rattle.packet.specs.Packet.{Bytes, polynomial, polynomialAfter, bytesOf, mostBits, unfitLength, unfitValues}
 
 polynomialAfter-snoc : (v : ℕ) (s : List ℕ) (b : ℕ) → polynomialAfter v (s ++ (b ∷ [])) ≡ polynomialAfter v s * 256 + b
 unfolding polynomialAfter
@@ -41,13 +41,13 @@ polynomial-take s i h = after-take 0 s i h
 pub polynomial-two : (s : List ℕ) → 2 ≤ length s → polynomial (take 2 s) ≡ getD s 0 0 * 256 + getD s 1 0
 polynomial-two s h = omega (arith, polynomial-nil, polynomial-take s 0 (omega arith), polynomial-take s 1 (omega arith))
 
-pub length-bytes : (k v : ℕ) → length (bytes k v) ≡ k
-unfolding bytes
+pub length-bytes : (k v : ℕ) → length (bytesOf k v) ≡ k
+unfolding bytesOf
 length-bytes zero v = refl
 length-bytes (suc k) v = simp length-append (omega (arith, length-bytes k (v / 256)))
 
-pub bytes-suc : (k v : ℕ) → bytes (suc k) v ≡ bytes k (v / 256) ++ (v % 256 ∷ [])
-unfolding bytes
+pub bytes-suc : (k v : ℕ) → bytesOf (suc k) v ≡ bytesOf k (v / 256) ++ (v % 256 ∷ [])
+unfolding bytesOf
 bytes-suc k v = refl
 
 pub pow-positive : (k : ℕ) → 0 < 256 ^ k
@@ -55,27 +55,27 @@ pow-positive zero = omega arith
 pow-positive (suc k) = omega (arith, pow-positive k)
 
 -- bytes, read as a number
-pub polynomial-bytes : (k v : ℕ) → polynomial (bytes k v) ≡ v % 256 ^ k
-unfolding bytes
+pub polynomial-bytes : (k v : ℕ) → polynomial (bytesOf k v) ≡ v % 256 ^ k
+unfolding bytesOf
 polynomial-bytes zero v = polynomial-nil ∙ sym (mod-one v)
 polynomial-bytes (suc k) v =
-    polynomial-snoc (bytes k (v / 256)) (v % 256)
+    polynomial-snoc (bytesOf k (v / 256)) (v % 256)
     ∙ ap (λ (x : ℕ). x * 256 + v % 256) (polynomial-bytes k (v / 256))
     ∙ sym (ap (λ (x : ℕ). v % x) (pow-suc 256 k) ∙ mod-mul v (pow-positive k) (omega arith))
 
-pub bytes-take : (s : List ℕ) → Bytes s → (k : ℕ) → k ≤ length s → bytes k (polynomial (take k s)) ≡ take k s
-unfolding bytes
+pub bytes-take : (s : List ℕ) → Bytes s → (k : ℕ) → k ≤ length s → bytesOf k (polynomial (take k s)) ≡ take k s
+unfolding bytesOf
 bytes-take s b zero h = refl
 bytes-take s b (suc k) h =
     let e = polynomial-take s k h in
     let hi : polynomial (take (suc k) s) / 256 ≡ polynomial (take k s) = omega (arith, b k) in
     let lo : polynomial (take (suc k) s) % 256 ≡ getD s k 0 = omega (arith, b k) in
-    ap₂ (λ (x : List ℕ) (y : ℕ). x ++ (y ∷ [])) (ap (bytes k) hi ∙ bytes-take s b k (omega arith)) lo ∙ sym (take-suc s k 0 h)
+    ap₂ (λ (x : List ℕ) (y : ℕ). x ++ (y ∷ [])) (ap (bytesOf k) hi ∙ bytes-take s b k (omega arith)) lo ∙ sym (take-suc s k 0 h)
 
 -- a number, written as bytes again
-pub bytes-polynomial : (s : List ℕ) → Bytes s → bytes (length s) (polynomial s) ≡ s
+pub bytes-polynomial : (s : List ℕ) → Bytes s → bytesOf (length s) (polynomial s) ≡ s
 bytes-polynomial s b =
-    ap (λ (x : List ℕ). bytes (length s) (polynomial x)) (sym (take-length s)) ∙ bytes-take s b (length s) (omega arith) ∙ take-length s
+    ap (λ (x : List ℕ). bytesOf (length s) (polynomial x)) (sym (take-length s)) ∙ bytes-take s b (length s) (omega arith) ∙ take-length s
 
 -- ---- conditions 2 and 11
 

@@ -24,9 +24,9 @@ unfolding polynomialAfter
 polynomial s = polynomialAfter 0 s
 
 -- the lowest k bytes of a number, the highest of them first
-unfoldable pub bytes : ℕ → ℕ → List ℕ
-bytes zero v = []
-bytes (suc k) v = bytes k (v / 256) ++ (v % 256 ∷ [])
+unfoldable pub bytesOf : ℕ → ℕ → List ℕ
+bytesOf zero v = []
+bytesOf (suc k) v = bytesOf k (v / 256) ++ (v % 256 ∷ [])
 
 -- the packet's length in bits
 abbrev pub bits : List ℕ → ℕ

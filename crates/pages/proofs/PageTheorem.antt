@@ -16,7 +16,7 @@ use Rattle.poly.specs.Generators.{unfit}
 use Rattle.packet.specs.Packet.{unfitLength}
 use Rattle.tables.specs.Tables.{stepTable, firstTable}
 use Rattle.tables.proofs.TableLaws.{length-stepTable, length-firstTable, fit-tables, tables-right, not-wrong}
-use Rattle.patterns.specs.Patterns.{Place, ended, after}
+use Rattle.patterns.specs.Patterns.{Point, ended, after}
 use Rattle.patterns.specs.Listing.{follows, unfitLimit, unfitSyndrome}
 use Rattle.patterns.specs.Marks.{remaining, unfitMark}
 use Rattle.patterns.specs.Records.{recordOf, records, longestRecord}
@@ -31,11 +31,11 @@ use Rattle.pages.specs.Calls.{requested, pageCall, pageLeft}
 use Rattle.pages.proofs.ConditionLaws.{fit-output}
 
 -- what follows a mark: the listed patterns that come after it; the mark's own pattern need not be one of them
-pub follows-mark : (r : Request) (m : Place) (ps : List ℕ) → In ps (remaining (requested r) m) ↔ (In ps (requested r) × (follows m ps ≡ true))
+pub follows-mark : (r : Request) (m : Point) (ps : List ℕ) → In ps (remaining (requested r) m) ↔ (In ps (requested r) × (follows m ps ≡ true))
 follows-mark r m ps = (sift-in (follows m) (requested r), λ h. in-sift (follows m) (h .0) (h .1))
 
 -- fit numbers, a fit mark, right tables and room for the longest record are all that an accepted call takes
-pub page-accepts : (r : Request) (m : Place)
+pub page-accepts : (r : Request) (m : Point)
     → unfit (r .generator) ≡ false → unfitLength (degree (r .generator)) (r .bits) ≡ false → unfitLimit (r .limit) ≡ false → r .syndrome < 2 ^ degree (r .generator)
     → r .steps ≡ stepTable (degree (r .generator)) (r .generator) → r .firsts ≡ firstTable (degree (r .generator)) (r .generator)
     → unfitMark (r .bits) (r .limit) m ≡ false → longestRecord ≤ length (r .output)
@@ -57,7 +57,7 @@ page-accepts r m generator bits limit within steps firsts mark room =
     ))
 
 -- a refused call leaves its output
-pub page-refused : (r : Request) (m : Place) (k : ℕ) → pageCall r m ≡ refused k → pageLeft r m ≡ r .output
+pub page-refused : (r : Request) (m : Point) (k : ℕ) → pageCall r m ≡ refused k → pageLeft r m ≡ r .output
 page-refused r m k h =
     judge-refused (pageConditions r m) (pageOf (remaining (requested r) m) (length (r .output))) k (λ _. r .output) (pageBytes (remaining (requested r) m) (r .output)) h
 
@@ -67,13 +67,13 @@ in-getD (x ∷ xs) zero h = here refl
 in-getD (x ∷ xs) (suc i) h = there (in-getD xs i (omega arith))
 
 -- the limit of an accepted call is accepted, and its output has room for a record of as many positions
-pub accepted-roomy : (r : Request) (m : Place) (a b : Page) → judge (pageConditions r m) refused (accepted a) ≡ accepted b → 1 + 2 * r .limit ≤ length (r .output)
+pub accepted-roomy : (r : Request) (m : Point) (a b : Page) → judge (pageConditions r m) refused (accepted a) ≡ accepted b → 1 + 2 * r .limit ≤ length (r .output)
 accepted-roomy r m a b h =
     let clear = judge-clear (pageConditions r m) a b h in
     omega (arith, fit-limit (r .limit) (clear 3), fit-output (length (r .output)) (clear 8))
 
 -- an accepted call; `rest` is what follows its mark
-module _ (r : Request) (m : Place) (p : Page) (h : pageCall r m ≡ accepted p) where
+module _ (r : Request) (m : Point) (p : Page) (h : pageCall r m ≡ accepted p) where
   abbrev rest : List (List ℕ)
   rest = remaining (requested r) m
 

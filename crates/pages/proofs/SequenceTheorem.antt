@@ -8,7 +8,7 @@ use lib.ListN.{length}
 use Rattle.base.specs.Lists.{All, none, each}
 use Rattle.base.specs.Outcome.{accepted}
 use Rattle.poly.specs.Polynomial.{degree}
-use Rattle.patterns.specs.Patterns.{Place, start}
+use Rattle.patterns.specs.Patterns.{Point, start}
 use Rattle.patterns.specs.Listing.{listing}
 use Rattle.patterns.specs.Pages.{Page}
 use Rattle.patterns.specs.Marks.{unfitMark}
@@ -33,9 +33,9 @@ page-sequence generator bits limit syndrome lendings =
 module _ (generator bits limit syndrome : ℕ) where
   -- a lending that is accepted at every fit mark
   abbrev Accepting : Lending → Type 0
-  Accepting lent = (m : Place) → unfitMark bits limit m ≡ false → (p : Page) × (pageCall (requestWith generator bits limit syndrome lent) m ≡ accepted p)
+  Accepting lent = (m : Point) → unfitMark bits limit m ≡ false → (p : Page) × (pageCall (requestWith generator bits limit syndrome lent) m ≡ accepted p)
 
-  accepted-from : {ls : List Lending} → All Accepting ls → (m : Place) → unfitMark bits limit m ≡ false
+  accepted-from : {ls : List Lending} → All Accepting ls → (m : Point) → unfitMark bits limit m ≡ false
       → length (calls (λ lent mark. pageCall (requestWith generator bits limit syndrome lent) mark) (λ lent mark. pageLeft (requestWith generator bits limit syndrome lent) mark) m ls)
       ≡ length ls
   unfolding calls
@@ -46,6 +46,6 @@ module _ (generator bits limit syndrome : ℕ) where
       rw (called .1) (ap suc (accepted-from rest (p .next) (page-mark-fits (requestWith generator bits limit syndrome lent) m p (called .1))))
 
   pub sequence-accepted : (lendings : List Lending)
-      → All (λ (lent : Lending). (m : Place) → unfitMark bits limit m ≡ false → (p : Page) × (pageCall (requestWith generator bits limit syndrome lent) m ≡ accepted p)) lendings
+      → All (λ (lent : Lending). (m : Point) → unfitMark bits limit m ≡ false → (p : Page) × (pageCall (requestWith generator bits limit syndrome lent) m ≡ accepted p)) lendings
       → length (acceptedCalls generator bits limit syndrome lendings) ≡ length lendings
   sequence-accepted lendings h = accepted-from h start refl

@@ -4,7 +4,7 @@ use mathlib.Core.List.{List}
 use Rattle.base.specs.Outcome.{Outcome, refused, accepted}
 use Rattle.base.specs.Refusals.{number}
 use Rattle.poly.specs.Polynomial.{degree}
-use Rattle.patterns.specs.Patterns.{Place}
+use Rattle.patterns.specs.Patterns.{Point}
 use Rattle.patterns.specs.Listing.{listing}
 use Rattle.patterns.specs.Marks.{remaining}
 use Rattle.patterns.specs.Pages.{Page, pagedBy, leftBy}
@@ -21,9 +21,9 @@ pageAnswer (Refused r) = refused (number r)
 abbrev pub requested : Request → List (List ℕ)
 requested r = listing (degree (r .generator)) (r .generator) (r .bits) (r .limit) (r .syndrome)
 
-abbrev pub pageCall : Request → Place → Outcome Page
+abbrev pub pageCall : Request → Point → Outcome Page
 pageCall r mark = pagedBy (pageConditions r mark) (remaining (requested r) mark) (r .output)
 
 -- the output after the call
-abbrev pub pageLeft : Request → Place → List ℕ
+abbrev pub pageLeft : Request → Point → List ℕ
 pageLeft r mark = leftBy (pageConditions r mark) (remaining (requested r) mark) (r .output)

@@ -9,7 +9,7 @@ use Rattle.poly.specs.Polynomial.{degree}
 use Rattle.poly.specs.Generators.{unfit}
 use Rattle.packet.specs.Packet.{unfitLength}
 use Rattle.tables.specs.Tables.{unfitTables, wrongTables}
-use Rattle.patterns.specs.Patterns.{Place}
+use Rattle.patterns.specs.Patterns.{Point}
 use Rattle.patterns.specs.Listing.{unfitLimit, unfitSyndrome}
 use Rattle.patterns.specs.Marks.{unfitMark}
 use Rattle.patterns.specs.Records.{longestRecord}
@@ -41,7 +41,7 @@ unfoldable pub unfitOutput : ℕ → Bool
 unfitOutput room = ltb room longestRecord
 
 -- a page call is refused by 1 to 8
-abbrev pub pageConditions : Request → Place → List Condition
+abbrev pub pageConditions : Request → Point → List Condition
 pageConditions r mark =
     when 1 (unfit (r .generator))
     ∷ when 2 (unfitLength (degree (r .generator)) (r .bits))

@@ -7,7 +7,7 @@ use patterns::Mark;
 use poly::Generator;
 ghost use mathlib.Core.Path.{_≡_};
 ghost use Rattle.base.specs.Judged.{judgement, judged};
-ghost use Rattle.patterns.specs.Patterns.{placeOf};
+ghost use Rattle.patterns.specs.Patterns.{pointOf};
 ghost use Rattle.pages.specs.Conditions.{pageRequest, unfitOutput, pageConditions};
 ghost use Rattle.pages.specs.Calls.{pageAnswer, pageCall, pageLeft};
 
@@ -34,7 +34,7 @@ fn judge_page(
     mark: Mark,
     output: &[u8],
 ) -> Judgement
-    ensures { λ r. ⌜ judgement r ≡ judged (pageConditions (pageRequest generator bits limit syndrome (now (steps .entry)) (now (firsts .entry)) (now (output .entry))) (placeOf mark)) ⌝ }
+    ensures { λ r. ⌜ judgement r ≡ judged (pageConditions (pageRequest generator bits limit syndrome (now (steps .entry)) (now (firsts .entry)) (now (output .entry))) (pointOf mark)) ⌝ }
 {
     if poly::unfit_generator(generator) {
         return Judgement::Refused(Refusal::Generator);
@@ -75,8 +75,8 @@ pub fn page(
     mark: Mark,
     output: &mut [u8],
 ) -> PageAnswer
-    ensures answer { λ r. ⌜ pageAnswer r ≡ pageCall (pageRequest generator bits limit syndrome (now (steps .entry)) (now (firsts .entry)) (now (output .entry))) (placeOf mark) ⌝ }
-    ensures bytes { λ _. ⌜ now (output .exit) ≡ pageLeft (pageRequest generator bits limit syndrome (now (steps .entry)) (now (firsts .entry)) (now (output .entry))) (placeOf mark) ⌝ }
+    ensures answer { λ r. ⌜ pageAnswer r ≡ pageCall (pageRequest generator bits limit syndrome (now (steps .entry)) (now (firsts .entry)) (now (output .entry))) (pointOf mark) ⌝ }
+    ensures bytes { λ _. ⌜ now (output .exit) ≡ pageLeft (pageRequest generator bits limit syndrome (now (steps .entry)) (now (firsts .entry)) (now (output .entry))) (pointOf mark) ⌝ }
 {
     let judged = judge_page(
         generator,

@@ -7,11 +7,11 @@ use native.Mathlib.Nat.{sub-zero}
 use lib.ListN.{length, take, drop, length-append}
 use lib.Seq.{append-snoc, length-take-le, take-all}
 use Rattle.base.specs.Lists.{Ascending}
-use Rattle.patterns.specs.Patterns.{mostPositions, Place, ended, after, positions}
+use Rattle.patterns.specs.Patterns.{mostPositions, Point, ended, after, positions}
 use Rattle.patterns.specs.Order.{before}
 use Rattle.patterns.specs.Listing.{sift}
 use Rattle.patterns.specs.Records.{records, recordOf}
-use Rattle.patterns.specs.Pages.{fitting, lastOf, nextPlace, Page, pageOf, pageBytes}
+use Rattle.patterns.specs.Pages.{fitting, lastOf, nextPoint, Page, pageOf, pageBytes}
 use Rattle.patterns.specs.Slices.{RecordPut}
 use Rattle.patterns.specs.declared.Pattern.{Pattern}
 use Rattle.patterns.proofs.PageLaws.{record-length, records-longer, page-put, fitting-on, fitting-off, fitting-out, next-ended, next-after}
@@ -64,12 +64,12 @@ filling-none l xs out pos r last h e =
     }
 
 -- a page that wrote `done`, whose records are those that fit
-page-done : (rest done : List (List ℕ)) (out : List ℕ) (used written : ℕ) (next : Place) → fitting (length out) rest ≡ done → used ≡ length (records done)
-    → written ≡ length done → nextPlace rest done ≡ next → _≡_ {A = Page} (record { used = used; written = written; next = next }) (pageOf rest (length out))
+page-done : (rest done : List (List ℕ)) (out : List ℕ) (used written : ℕ) (next : Point) → fitting (length out) rest ≡ done → used ≡ length (records done)
+    → written ≡ length done → nextPoint rest done ≡ next → _≡_ {A = Page} (record { used = used; written = written; next = next }) (pageOf rest (length out))
 page-done rest done out used written next e u k n =
     let a : used ≡ length (records (fitting (length out) rest)) = u ∙ ap (λ (d : List (List ℕ)). length (records d)) (sym e) in
     let b : written ≡ length (fitting (length out) rest) = k ∙ ap length (sym e) in
-    let c : next ≡ nextPlace rest (fitting (length out) rest) = sym n ∙ ap (nextPlace rest) (sym e) in
+    let c : next ≡ nextPoint rest (fitting (length out) rest) = sym n ∙ ap (nextPoint rest) (sym e) in
     λ i. record { used = a i; written = b i; next = c i }
 
 bytes-done : (rest done : List (List ℕ)) (out cur : List ℕ) → fitting (length out) rest ≡ done → cur ≡ records done ++ drop (length (records done)) out → cur ≡ pageBytes rest out

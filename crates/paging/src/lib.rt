@@ -9,7 +9,7 @@ use search::Found;
 ghost use mathlib.Core.Path.{_≡_};
 ghost use Prim.Native.Nat.{_≤_};
 ghost use lib.ListN.{length};
-ghost use Rattle.patterns.specs.Patterns.{mostPositions, placeOf};
+ghost use Rattle.patterns.specs.Patterns.{mostPositions, pointOf};
 ghost use Rattle.patterns.specs.Order.{before};
 ghost use Rattle.patterns.specs.Listing.{listing};
 ghost use Rattle.patterns.specs.Marks.{remaining};
@@ -76,9 +76,9 @@ fn page_by(
     pos: &mut [u16],
     output: &mut [u8],
 ) -> PageResult
-    requires { ⌜ Prepared cursor (now pow) (now first) × (Marked (length (now pow)) (length (now pos)) (placeOf mark) × (length (now pos) ≤ mostPositions)) ⌝ }
-    ensures page { λ r. ⌜ pageResult r ≡ pageOf (remaining (listedBy cursor (length (now (pow .entry))) (length (now (pos .entry)))) (placeOf mark)) (length (now (output .entry))) ⌝ }
-    ensures bytes { λ _. ⌜ now (output .exit) ≡ pageBytes (remaining (listedBy cursor (length (now (pow .entry))) (length (now (pos .entry)))) (placeOf mark)) (now (output .entry)) ⌝ }
+    requires { ⌜ Prepared cursor (now pow) (now first) × (Marked (length (now pow)) (length (now pos)) (pointOf mark) × (length (now pos) ≤ mostPositions)) ⌝ }
+    ensures page { λ r. ⌜ pageResult r ≡ pageOf (remaining (listedBy cursor (length (now (pow .entry))) (length (now (pos .entry)))) (pointOf mark)) (length (now (output .entry))) ⌝ }
+    ensures bytes { λ _. ⌜ now (output .exit) ≡ pageBytes (remaining (listedBy cursor (length (now (pow .entry))) (length (now (pos .entry)))) (pointOf mark)) (now (output .entry)) ⌝ }
 {
     let found = listing::begin(cursor, pow, first, mark, pos);
     fill(cursor, pow, first, found, pos, output)
@@ -96,9 +96,9 @@ fn page_in(
     pow: &mut [u32],
     output: &mut [u8],
 ) -> PageResult
-    requires { ⌜ Listable g bits limit syndrome (now steps) (now firsts) (placeOf mark) × (bits ≤ length (now pow)) ⌝ }
-    ensures page { λ r. ⌜ pageResult r ≡ pageOf (remaining (listing (g .degree) (g .coefficients) bits limit syndrome) (placeOf mark)) (length (now (output .entry))) ⌝ }
-    ensures bytes { λ _. ⌜ now (output .exit) ≡ pageBytes (remaining (listing (g .degree) (g .coefficients) bits limit syndrome) (placeOf mark)) (now (output .entry)) ⌝ }
+    requires { ⌜ Listable g bits limit syndrome (now steps) (now firsts) (pointOf mark) × (bits ≤ length (now pow)) ⌝ }
+    ensures page { λ r. ⌜ pageResult r ≡ pageOf (remaining (listing (g .degree) (g .coefficients) bits limit syndrome) (pointOf mark)) (length (now (output .entry))) ⌝ }
+    ensures bytes { λ _. ⌜ now (output .exit) ≡ pageBytes (remaining (listing (g .degree) (g .coefficients) bits limit syndrome) (pointOf mark)) (now (output .entry)) ⌝ }
 {
     let period = cursor::prepare(g, bits, steps, firsts, pow);
     let cursor = Cursor {
@@ -128,9 +128,9 @@ pub fn list_page(
     mark: Mark,
     output: &mut [u8],
 ) -> PageResult
-    requires { ⌜ Listable g bits limit syndrome (now steps) (now firsts) (placeOf mark) ⌝ }
-    ensures page { λ r. ⌜ pageResult r ≡ pageOf (remaining (listing (g .degree) (g .coefficients) bits limit syndrome) (placeOf mark)) (length (now (output .entry))) ⌝ }
-    ensures bytes { λ _. ⌜ now (output .exit) ≡ pageBytes (remaining (listing (g .degree) (g .coefficients) bits limit syndrome) (placeOf mark)) (now (output .entry)) ⌝ }
+    requires { ⌜ Listable g bits limit syndrome (now steps) (now firsts) (pointOf mark) ⌝ }
+    ensures page { λ r. ⌜ pageResult r ≡ pageOf (remaining (listing (g .degree) (g .coefficients) bits limit syndrome) (pointOf mark)) (length (now (output .entry))) ⌝ }
+    ensures bytes { λ _. ⌜ now (output .exit) ≡ pageBytes (remaining (listing (g .degree) (g .coefficients) bits limit syndrome) (pointOf mark)) (now (output .entry)) ⌝ }
 {
     let mut pow = [0u32; MOST_BITS];
     page_in(

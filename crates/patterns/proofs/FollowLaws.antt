@@ -3,7 +3,7 @@ use mathlib.Core.Path.{_≡_, refl}
 use mathlib.Core.Bool.{true}
 use mathlib.Core.List.{List, [], _∷_, _++_}
 use Prim.Native.Nat.{ℕ}
-use Rattle.patterns.specs.Patterns.{Place, start, ended, after}
+use Rattle.patterns.specs.Patterns.{Point, start, ended, after}
 use Rattle.patterns.specs.Order.{before}
 use Rattle.patterns.specs.StrictOrder.{Sorted}
 use Rattle.patterns.specs.Listing.{follows}
@@ -13,7 +13,7 @@ use Rattle.patterns.proofs.OrderLaws.{before-strict-total}
 use Rattle.patterns.proofs.SiftLaws.{sift-all, sift-none}
 use Rattle.patterns.proofs.SortedLaws.{sorted-next}
 
-follows-on : (m : Place) (p q : List ℕ) → follows m p ≡ true → before p q ≡ true → follows m q ≡ true
+follows-on : (m : Point) (p q : List ℕ) → follows m p ≡ true → before p q ≡ true → follows m q ≡ true
 unfolding follows
 follows-on start p q h k = refl
 follows-on ended p q h k = h
@@ -29,12 +29,12 @@ remaining-ended xs = sift-none (follows ended) xs (λ a i. refl)
 
 module _ {xs : List (List ℕ)} (sorted : Sorted before xs) where
   -- the first that follows a mark, and then what follows that one
-  pub remaining-next : (m : Place) (q : List ℕ) (rest : List (List ℕ)) → remaining xs m ≡ q ∷ rest → remaining xs (after q) ≡ rest
+  pub remaining-next : (m : Point) (q : List ℕ) (rest : List (List ℕ)) → remaining xs m ≡ q ∷ rest → remaining xs (after q) ≡ rest
   unfolding follows
   remaining-next m q rest e = sorted-next before-strict-total (follows m) (follows-on m) sorted q rest e
 
   -- the same after several
-  pub remaining-last : (m : Place) (w : List ℕ) (ws rest : List (List ℕ)) → remaining xs m ≡ w ∷ (ws ++ rest) → remaining xs (after (lastOf w ws)) ≡ rest
+  pub remaining-last : (m : Point) (w : List ℕ) (ws rest : List (List ℕ)) → remaining xs m ≡ w ∷ (ws ++ rest) → remaining xs (after (lastOf w ws)) ≡ rest
   unfolding lastOf
   remaining-last m w [] rest e = remaining-next m w rest e
   remaining-last m w (v ∷ vs) rest e = remaining-last (after w) v vs rest (remaining-next m w (v ∷ (vs ++ rest)) e)

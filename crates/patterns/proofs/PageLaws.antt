@@ -11,12 +11,12 @@ use lib.ListN.{length, take, drop, getD, length-append, length-drop, drop-of-len
 use lib.Seq.{take-append-seam, drop-append-seam, drop-append-add, drop-drop, append-snoc}
 use Rattle.base.specs.Lists.{In, here}
 use Rattle.base.proofs.Cases.{by-test, by-order}
-use Rattle.patterns.specs.Patterns.{Place, ended, after}
+use Rattle.patterns.specs.Patterns.{Point, ended, after}
 use Rattle.patterns.specs.Order.{before}
 use Rattle.patterns.specs.StrictOrder.{Sorted}
 use Rattle.patterns.specs.Marks.{remaining}
 use Rattle.patterns.specs.Records.{positionBytes, recordOf, records}
-use Rattle.patterns.specs.Pages.{fitting, lastOf, nextPlace, pageOf, pageBytes}
+use Rattle.patterns.specs.Pages.{fitting, lastOf, nextPoint, pageOf, pageBytes}
 use Rattle.patterns.proofs.FollowLaws.{remaining-ended, remaining-last}
 
 -- ---- records ----
@@ -159,12 +159,12 @@ fitting-out room done whole e = e ∙ ap (λ (r : List (List ℕ)). done ++ r) (
 
 -- ---- the mark ----
 
-pub next-ended : (rest written : List (List ℕ)) → length written ≡ length rest → nextPlace rest written ≡ ended
-unfolding nextPlace
+pub next-ended : (rest written : List (List ℕ)) → length written ≡ length rest → nextPoint rest written ≡ ended
+unfolding nextPoint
 next-ended rest written e = rw (eq-eqb (length written) (length rest) e)
 
-pub next-after : (rest written : List (List ℕ)) → length written < length rest → nextPlace rest written ≡ after (lastOf [] written)
-unfolding nextPlace
+pub next-after : (rest written : List (List ℕ)) → length written < length rest → nextPoint rest written ≡ after (lastOf [] written)
+unfolding nextPoint
 next-after rest written h = rw (ne-eqb (length written) (length rest) (omega arith))
 
 -- the last of the first k + 1
@@ -177,13 +177,13 @@ last-take p (suc k) (x ∷ xs) h = last-take x k xs (omega arith)
 -- ---- what a page leaves ----
 
 module _ {xs : List (List ℕ)} (sorted : Sorted before xs) where
-  after-written : (m : Place) (written rest : List (List ℕ)) → remaining xs m ≡ written ++ rest → 1 ≤ length written → remaining xs (after (lastOf [] written)) ≡ rest
+  after-written : (m : Point) (written rest : List (List ℕ)) → remaining xs m ≡ written ++ rest → 1 ≤ length written → remaining xs (after (lastOf [] written)) ≡ rest
   unfolding lastOf
   after-written m [] rest e h = absurd (omega arith)
   after-written m (w ∷ ws) rest e h = remaining-last sorted m w ws rest e
 
   -- what follows the mark that a page returns is what followed its own, less what it wrote
-  pub page-leaves : (m : Place) (room : ℕ) → (1 ≤ length (remaining xs m) → 1 ≤ length (fitting room (remaining xs m)))
+  pub page-leaves : (m : Point) (room : ℕ) → (1 ≤ length (remaining xs m) → 1 ≤ length (fitting room (remaining xs m)))
       → remaining xs (pageOf (remaining xs m) room .next) ≡ drop (pageOf (remaining xs m) room .written) (remaining xs m)
   page-leaves m room some =
       by-order (length (fitting room (remaining xs m))) (length (remaining xs m))

@@ -12,13 +12,13 @@ use Rattle.base.specs.Lists.{In, here}
 use Rattle.base.specs.Outcome.{Outcome, refused, accepted, Condition, judge}
 use Rattle.base.proofs.Cases.{by-order}
 use Rattle.base.proofs.JudgeLaws.{judge-accepted, judge-value}
-use Rattle.patterns.specs.Patterns.{Place, start, ended, after}
+use Rattle.patterns.specs.Patterns.{Point, start, ended, after}
 use Rattle.patterns.specs.Order.{before}
 use Rattle.patterns.specs.StrictOrder.{Sorted}
 use Rattle.patterns.specs.Listing.{listing}
 use Rattle.patterns.specs.Marks.{remaining}
 use Rattle.patterns.specs.Records.{records}
-use Rattle.patterns.specs.Pages.{fitting, lastOf, nextPlace, Page, pageOf, pageBytes, pagedBy, leftBy}
+use Rattle.patterns.specs.Pages.{fitting, lastOf, nextPoint, Page, pageOf, pageBytes, pagedBy, leftBy}
 use Rattle.patterns.specs.Sequences.{Call, calls, joined, reported, reached, CountsUp, none, adds, Sequence}
 use Rattle.patterns.proofs.SiftLaws.{sift-in}
 use Rattle.patterns.proofs.FollowLaws.{remaining-start}
@@ -26,7 +26,7 @@ use Rattle.patterns.proofs.ListingLaws.{listing-sorted, listed-limit}
 use Rattle.patterns.proofs.PageLaws.{records-append, fitting-take, fitting-length, fitting-unless, page-length, page-used, page-leaves, next-ended, next-after, last-take}
 
 -- the calls over the list xs: each request brings an output of its own, and its conditions at a mark
-abbrev pub pageCalls : {Request : Type 0} → List (List ℕ) → (Request → List ℕ) → (Request → Place → List Condition) → Place → List Request → List Call
+abbrev pub pageCalls : {Request : Type 0} → List (List ℕ) → (Request → List ℕ) → (Request → Point → List Condition) → Point → List Request → List Call
 pageCalls xs output conditions =
     calls (λ r mark. pagedBy (conditions r mark) (remaining xs mark) (output r))
     (λ r mark. leftBy (conditions r mark) (remaining xs mark) (output r))
@@ -36,7 +36,7 @@ by-outcome (refused k) f g = f k refl
 by-outcome (accepted a) f g = g a refl
 
 -- the mark after an accepted call, with k records written
-data Stands (xs : List (List ℕ)) (k : ℕ) (m : Place) : Type 0 where
+data Stands (xs : List (List ℕ)) (k : ℕ) (m : Point) : Type 0 where
   over : k ≡ length xs → m ≡ ended → Stands xs k m
   inside : 1 ≤ k → k < length xs → m ≡ after (getD xs (k - 1) []) → Stands xs k m
 
@@ -46,7 +46,7 @@ unmoved [] e = refl
 unmoved (c ∷ cs) e = absurd (omega arith)
 
 -- what some calls bring about that begin at the mark m with k records written
-record Progress (xs : List (List ℕ)) (k : ℕ) (m : Place) (cs : List Call) : Type 0 where
+record Progress (xs : List (List ℕ)) (k : ℕ) (m : Point) (cs : List Call) : Type 0 where
   pub counts : CountsUp xs k cs
   pub bound : k + reported cs ≤ length xs
   pub joint : joined cs ≡ records (take (reported cs) (drop k xs))
@@ -93,7 +93,7 @@ module _ (xs : List (List ℕ)) (cs : List Call) (p : Progress xs 0 start cs) wh
 -- ---- one accepted call ----
 
 settled-next : (xs : List (List ℕ)) (k w : ℕ) (written : List (List ℕ)) → written ≡ take w (drop k xs) → length written ≡ w → k + w ≤ length xs
-    → (k < length xs → 1 ≤ w) → Stands xs (k + w) (nextPlace (drop k xs) written)
+    → (k < length xs → 1 ≤ w) → Stands xs (k + w) (nextPoint (drop k xs) written)
 settled-next xs k zero written e d h some =
     by-order k (length xs) (λ lt. absurd (omega (arith, some lt)))
     (λ ge. over (omega arith) (next-ended (drop k xs) written (omega (arith, length-drop k xs))))
@@ -109,7 +109,7 @@ settled-next xs k (suc w) written e d h some =
 
 module _ (xs : List (List ℕ)) (sorted : Sorted before xs) (limit : ℕ) (bounded : (ps : List ℕ) → In ps xs → length ps ≤ limit) where
   -- a call with room for the longest record, at a mark after which the list without its first k patterns is left
-  module _ (k : ℕ) (m : Place) (room : ℕ) (left : remaining xs m ≡ drop k xs) (within : k ≤ length xs) (roomy : 1 + 2 * limit ≤ room) where
+  module _ (k : ℕ) (m : Point) (room : ℕ) (left : remaining xs m ≡ drop k xs) (within : k ≤ length xs) (roomy : 1 + 2 * limit ≤ room) where
     writes : 1 ≤ length (remaining xs m) → 1 ≤ length (fitting room (remaining xs m))
     writes h =
         by-order (length (fitting room (remaining xs m))) 1
@@ -133,10 +133,10 @@ module _ (xs : List (List ℕ)) (sorted : Sorted before xs) (limit : ℕ) (bound
 
   -- ---- any number of calls ----
 
-  module _ {Request : Type 0} (output : Request → List ℕ) (conditions : Request → Place → List Condition)
-      (roomy : (r : Request) (m : Place) (p : Page) → judge (conditions r m) refused (accepted p) ≡ accepted p → 1 + 2 * limit ≤ length (output r)) where
+  module _ {Request : Type 0} (output : Request → List ℕ) (conditions : Request → Point → List Condition)
+      (roomy : (r : Request) (m : Point) (p : Page) → judge (conditions r m) refused (accepted p) ≡ accepted p → 1 + 2 * limit ≤ length (output r)) where
     -- an accepted call, and those after it
-    onward : (k : ℕ) (m : Place) (out : List ℕ) (cs : List Call) → remaining xs m ≡ drop k xs → k ≤ length xs → 1 + 2 * limit ≤ length out
+    onward : (k : ℕ) (m : Point) (out : List ℕ) (cs : List Call) → remaining xs m ≡ drop k xs → k ≤ length xs → 1 + 2 * limit ≤ length out
         → Progress xs (k + length (fitting (length out) (drop k xs))) (pageOf (drop k xs) (length out) .next) cs
         → Progress xs k m (record { page = pageOf (drop k xs) (length out); output = pageBytes (drop k xs) out } ∷ cs)
     unfolding joined reported reached
@@ -157,7 +157,7 @@ module _ (xs : List (List ℕ)) (sorted : Sorted before xs) (limit : ℕ) (bound
           steady = λ h. omega (arith, then .steady (omega arith), some (omega arith));
         }
 
-    progress : (rs : List Request) (k : ℕ) (m : Place) → remaining xs m ≡ drop k xs → k ≤ length xs → Progress xs k m (pageCalls xs output conditions m rs)
+    progress : (rs : List Request) (k : ℕ) (m : Point) → remaining xs m ≡ drop k xs → k ≤ length xs → Progress xs k m (pageCalls xs output conditions m rs)
     unfolding calls joined reported reached records
     progress [] k m left within =
         record {
@@ -184,8 +184,8 @@ module _ (xs : List (List ℕ)) (sorted : Sorted before xs) (limit : ℕ) (bound
     sequence rs = claim xs (pageCalls xs output conditions start rs) (progress rs 0 start (remaining-start xs) (omega arith))
 
 -- the same for the list of error patterns
-pub listing-sequence : (n g l limit s : ℕ) {Request : Type 0} (output : Request → List ℕ) (conditions : Request → Place → List Condition)
-    → ((r : Request) (m : Place) (p : Page) → judge (conditions r m) refused (accepted p) ≡ accepted p → 1 + 2 * limit ≤ length (output r))
+pub listing-sequence : (n g l limit s : ℕ) {Request : Type 0} (output : Request → List ℕ) (conditions : Request → Point → List Condition)
+    → ((r : Request) (m : Point) (p : Page) → judge (conditions r m) refused (accepted p) ≡ accepted p → 1 + 2 * limit ≤ length (output r))
     → (rs : List Request) → Sequence (listing n g l limit s) (pageCalls (listing n g l limit s) output conditions start rs)
 listing-sequence n g l limit s output conditions roomy rs =
     sequence (listing n g l limit s) (listing-sorted n g l limit s) limit (listed-limit n g l limit s) output conditions roomy rs

@@ -5,7 +5,7 @@ use mathlib.Core.List.{List, [], _∷_, _++_, map}
 use lib.Dec.{eqb, ltb, leb}
 use Rattle.base.specs.Outcome.{pick}
 use Rattle.poly.specs.Polynomial.{rem, powers}
-use Rattle.patterns.specs.Patterns.{mostPositions, Place, start, ended, after}
+use Rattle.patterns.specs.Patterns.{mostPositions, Point, start, ended, after}
 use Rattle.patterns.specs.Order.{before}
 
 -- are these strictly ascending positions, from `from` on and below l?
@@ -56,7 +56,7 @@ unfoldable pub unfitSyndrome : ℕ → ℕ → Bool
 unfitSyndrome n s = leb (2 ^ n) s
 
 -- does a pattern follow a mark?
-unfoldable pub follows : Place → List ℕ → Bool
+unfoldable pub follows : Point → List ℕ → Bool
 follows start ps = true
 follows ended ps = false
 follows (after p) ps = before p ps

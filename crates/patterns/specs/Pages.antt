@@ -4,7 +4,7 @@ use mathlib.Core.List.{List, [], _∷_, _++_}
 use lib.Dec.{eqb, leb}
 use lib.ListN.{length, drop}
 use Rattle.base.specs.Outcome.{Outcome, refused, accepted, Condition, judge, pick}
-use Rattle.patterns.specs.Patterns.{Place, ended, after}
+use Rattle.patterns.specs.Patterns.{Point, ended, after}
 use Rattle.patterns.specs.Records.{recordOf, records}
 
 -- the first patterns whose records fit whole into so many bytes, up to the first that does not
@@ -19,14 +19,14 @@ lastOf p [] = p
 lastOf p (q ∷ qs) = lastOf q qs
 
 -- the next mark: ended where all that follow are written, and after the last one written where more are left
-unfoldable pub nextPlace : List (List ℕ) → List (List ℕ) → Place
-nextPlace rest written = pick (eqb (length written) (length rest)) ended (after (lastOf [] written))
+unfoldable pub nextPoint : List (List ℕ) → List (List ℕ) → Point
+nextPoint rest written = pick (eqb (length written) (length rest)) ended (after (lastOf [] written))
 
 -- what an accepted page call returns
 pub record Page : Type 0 where
   pub used : ℕ
   pub written : ℕ
-  pub next : Place
+  pub next : Point
 
 -- the page over the patterns that follow the mark, for an output of so many bytes
 abbrev pub pageOf : List (List ℕ) → ℕ → Page
@@ -34,7 +34,7 @@ pageOf rest room =
     record {
       used = length (records (fitting room rest));
       written = length (fitting room rest);
-      next = nextPlace rest (fitting room rest);
+      next = nextPoint rest (fitting room rest);
     }
 
 -- the output after it: the records, and beyond them what was there

@@ -18,13 +18,13 @@ positions (Two a b) = a ∷ b ∷ []
 positions (Three a b c) = a ∷ b ∷ c ∷ []
 positions (Four a b c d) = a ∷ b ∷ c ∷ d ∷ []
 
--- a mark: before the list, past its end, or after a pattern
-pub data Place : Type 0 where
-  start : Place
-  ended : Place
-  after : List ℕ → Place
+-- where a mark stands in the list: before it, past its end, or after a pattern
+pub data Point : Type 0 where
+  start : Point
+  ended : Point
+  after : List ℕ → Point
 
-abbrev pub placeOf : Mark → Place
-placeOf Start = start
-placeOf Ended = ended
-placeOf (After p) = after (positions p)
+abbrev pub pointOf : Mark → Point
+pointOf Start = start
+pointOf Ended = ended
+pointOf (After p) = after (positions p)

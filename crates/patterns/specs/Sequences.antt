@@ -4,7 +4,7 @@ use mathlib.Core.Path.{_≡_}
 use mathlib.Core.List.{List, [], _∷_, _++_}
 use lib.ListN.{length, take, drop, getD}
 use Rattle.base.specs.Outcome.{Outcome, refused, accepted}
-use Rattle.patterns.specs.Patterns.{Place, start, ended, after}
+use Rattle.patterns.specs.Patterns.{Point, start, ended, after}
 use Rattle.patterns.specs.Records.{records}
 use Rattle.patterns.specs.Pages.{fitting, Page}
 
@@ -16,13 +16,13 @@ pub record Call : Type 0 where
   pub output : List ℕ
 
 -- the accepted calls so far: none more where this call was refused, else this one and those made from its mark
-abbrev pub continued : Outcome Page → List ℕ → List Call → (Place → List Call) → List Call
+abbrev pub continued : Outcome Page → List ℕ → List Call → (Point → List Call) → List Call
 continued (refused number) out same onward = same
 continued (accepted page) out same onward = record { page = page; output = out } ∷ onward (page .next)
 
 -- the accepted calls among some requests, in their order, where `answer` and `left` are what a request's call
 -- answers and leaves in its output at a given mark; each call is given the mark reached, and a refused one leaves it
-unfoldable pub calls : {Request : Type 0} → (Request → Place → Outcome Page) → (Request → Place → List ℕ) → Place → List Request → List Call
+unfoldable pub calls : {Request : Type 0} → (Request → Point → Outcome Page) → (Request → Point → List ℕ) → Point → List Request → List Call
 calls answer left mark [] = []
 calls answer left mark (r ∷ rs) =
     continued (answer r mark) (left r mark) (calls answer left mark rs) (λ reached. calls answer left reached rs)
@@ -38,7 +38,7 @@ reported [] = zero
 reported (c ∷ cs) = c .page .written + reported cs
 
 -- the mark reached: the one that the last accepted call returned, and the first one where none was accepted
-unfoldable pub reached : Place → List Call → Place
+unfoldable pub reached : Point → List Call → Point
 reached mark [] = mark
 reached mark (c ∷ cs) = reached (c .page .next) cs
 

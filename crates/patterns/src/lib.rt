@@ -5,7 +5,7 @@ ghost use mathlib.Core.List.{_++_};
 ghost use Prim.Native.Nat.{_+_, _*_, _<_, _≤_};
 ghost use lib.ListN.{length, take, drop};
 ghost use Rattle.poly.specs.Fit.{Fit};
-ghost use Rattle.patterns.specs.Patterns.{mostPositions, positions, placeOf};
+ghost use Rattle.patterns.specs.Patterns.{mostPositions, positions, pointOf};
 ghost use Rattle.patterns.specs.Order.{lower, before};
 ghost use Rattle.patterns.specs.Listing.{ascending, unfitLimit, unfitSyndrome};
 ghost use Rattle.patterns.specs.Marks.{unfitPattern, unfitMark};
@@ -185,7 +185,7 @@ fn unfit_pattern(p: Pattern, l: usize, limit: usize) -> bool
 
 // Condition 7, for packets of l bits and patterns of at most so many positions.
 pub fn unfit_mark(m: Mark, l: usize, limit: usize) -> bool
-    ensures { λ r. ⌜ r ≡ unfitMark l limit (placeOf m) ⌝ }
+    ensures { λ r. ⌜ r ≡ unfitMark l limit (pointOf m) ⌝ }
 {
     match m {
         Mark::Start => false,

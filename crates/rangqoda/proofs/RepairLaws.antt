@@ -7,9 +7,9 @@ use borrow.Author.Tests.{eq-eqb, ne-eqb}
 use lib.Dec.{eqb}
 use lib.ListN.{length, take, drop, take-append-drop}
 use lib.Seq.{take-length, drop-length}
-use Rattle.base.specs.Outcome.{refused, accepted, judge}
+use Rattle.base.specs.Outcome.{refused, accepted, judge, earlier}
 use Rattle.base.proofs.Cases.{by-test, by-equal}
-use Rattle.base.proofs.JudgeLaws.{earlier, judge-applied, judge-clear, judge-refused}
+use Rattle.base.proofs.JudgeLaws.{judge-applied, judge-clear, judge-refused}
 use Rattle.packet.specs.Packet.{bits, unfitLength}
 use Rattle.packet.specs.declared.Crc.{Crc}
 use Rattle.packet.proofs.PacketLaws.{fit-length}

@@ -18,7 +18,7 @@ use Rattle.checksum.specs.declared.Check.{Check}
 use Rattle.checksum.specs.Calls.{stampConditions, stampCall}
 use Rattle.maker.specs.Calls.{makeConditions, makeCall}
 use Rattle.tables.specs.Calls.{tablesConditions, tablesCall}
-use Rattle.patterns.specs.Patterns.{Place}
+use Rattle.patterns.specs.Patterns.{Point}
 use Rattle.pages.specs.Conditions.{Request, pageConditions}
 use Rattle.pages.specs.Calls.{pageCall}
 use Rattle.repair.specs.Calls.{Repair, repairConditions, repairCall}
@@ -79,7 +79,7 @@ make-tells c seed check packet = judged-tells (makeConditions c (bits packet) ch
 pub tables-tells : (generator : ℕ) (steps firsts : List ℕ) → Tells (tablesCall generator steps firsts)
 tables-tells generator steps firsts = judged-tells (tablesConditions generator (length steps) (length firsts)) _ refl
 
-pub page-tells : (r : Request) (mark : Place) → Tells (pageCall r mark)
+pub page-tells : (r : Request) (mark : Point) → Tells (pageCall r mark)
 page-tells r mark = judged-tells (pageConditions r mark) _ refl
 
 pub repair-tells : (r : Repair) → Tells (repairCall r)

@@ -22,7 +22,7 @@ ghost use Rattle.pages.specs.Conditions.{pageRequest};
 ghost use Rattle.pages.specs.Calls.{pageCall, pageLeft};
 ghost use Rattle.repair.specs.Calls.{repairCall};
 ghost use Rattle.scatter.specs.Calls.{blockAnswer, blockCall, scatterOutput, gatherOutput};
-ghost use Rattle.codec.specs.Marks.{placeOfBytes};
+ghost use Rattle.codec.specs.Marks.{pointOfBytes};
 ghost use Rattle.codec.specs.Verdicts.{verdictLength, publishCode};
 ghost use Rattle.rangqoda.specs.Codes.{code, changed};
 ghost use Rattle.rangqoda.specs.Pages.{markAfter, usedAfter, writtenAfter};
@@ -174,7 +174,7 @@ pub extern "C" fn rangqoda_gather(
 #[no_mangle]
 pub extern "C" fn rangqoda_page(
     generator: u64,
-    length: usize,
+    bits: usize,
     limit: usize,
     syndrome: u64,
     step: &[u16],
@@ -184,14 +184,14 @@ pub extern "C" fn rangqoda_page(
     used: &mut usize,
     written: &mut u64,
 ) -> u32
-    ensures answer { λ r. ⌜ r ≡ code (pageCall (pageRequest generator length limit syndrome (now (step .entry)) (now (first .entry)) (now (output .entry))) (placeOfBytes (now (mark .entry)))) ⌝ }
-    ensures mark { λ _. ⌜ now (mark .exit) ≡ markAfter (now (mark .entry)) (pageCall (pageRequest generator length limit syndrome (now (step .entry)) (now (first .entry)) (now (output .entry))) (placeOfBytes (now (mark .entry)))) ⌝ }
-    ensures output { λ _. ⌜ now (output .exit) ≡ pageLeft (pageRequest generator length limit syndrome (now (step .entry)) (now (first .entry)) (now (output .entry))) (placeOfBytes (now (mark .entry))) ⌝ }
-    ensures used { λ _. ⌜ now (used .exit) ≡ usedAfter (now (used .entry)) (pageCall (pageRequest generator length limit syndrome (now (step .entry)) (now (first .entry)) (now (output .entry))) (placeOfBytes (now (mark .entry)))) ⌝ }
-    ensures written { λ _. ⌜ now (written .exit) ≡ writtenAfter (now (written .entry)) (pageCall (pageRequest generator length limit syndrome (now (step .entry)) (now (first .entry)) (now (output .entry))) (placeOfBytes (now (mark .entry)))) ⌝ }
+    ensures answer { λ r. ⌜ r ≡ code (pageCall (pageRequest generator bits limit syndrome (now (step .entry)) (now (first .entry)) (now (output .entry))) (pointOfBytes (now (mark .entry)))) ⌝ }
+    ensures mark { λ _. ⌜ now (mark .exit) ≡ markAfter (now (mark .entry)) (pageCall (pageRequest generator bits limit syndrome (now (step .entry)) (now (first .entry)) (now (output .entry))) (pointOfBytes (now (mark .entry)))) ⌝ }
+    ensures output { λ _. ⌜ now (output .exit) ≡ pageLeft (pageRequest generator bits limit syndrome (now (step .entry)) (now (first .entry)) (now (output .entry))) (pointOfBytes (now (mark .entry))) ⌝ }
+    ensures used { λ _. ⌜ now (used .exit) ≡ usedAfter (now (used .entry)) (pageCall (pageRequest generator bits limit syndrome (now (step .entry)) (now (first .entry)) (now (output .entry))) (pointOfBytes (now (mark .entry)))) ⌝ }
+    ensures written { λ _. ⌜ now (written .exit) ≡ writtenAfter (now (written .entry)) (pageCall (pageRequest generator bits limit syndrome (now (step .entry)) (now (first .entry)) (now (output .entry))) (pointOfBytes (now (mark .entry)))) ⌝ }
 {
     let at = codec::read_mark(mark);
-    let answer = pages::page(generator, length, limit, syndrome, step, first, at, output);
+    let answer = pages::page(generator, bits, limit, syndrome, step, first, at, output);
     match answer {
         PageAnswer::Refused(r) => base::number_of(r),
         PageAnswer::Paged(p) => {

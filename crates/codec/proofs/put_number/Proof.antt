@@ -6,14 +6,14 @@ use Prim.Native.Nat.{ℕ, suc, _-_, _%_, _≤_}
 use native.Mathlib.Omega.{arith}
 use lib.ListN.{length, drop, length-set}
 use lib.Seq.{drop-length}
-use Rattle.packet.specs.Packet.{bytes}
+use Rattle.packet.specs.Packet.{bytesOf}
 use Rattle.codec.proofs.VerdictLaws.{number-turn}
 use Rattle.codec.proofs.put_number.Statement.{statement}
 use Rattle.codec.proofs.put_number.Tie as tie
 
 abbrev Inv-loop : tie.InvT-loop
 Inv-loop value out₀ left₀ i₀ out left i =
-    (i ≤ length out₀) × (length out ≡ length out₀) × (bytes i left ++ drop i out ≡ bytes (length out₀) value)
+    (i ≤ length out₀) × (length out ≡ length out₀) × (bytesOf i left ++ drop i out ≡ bytesOf (length out₀) value)
 
 abbrev μ-loop : tie.MeasureT-loop
 μ-loop value out₀ left₀ i₀ out left i = i
@@ -21,7 +21,7 @@ abbrev μ-loop : tie.MeasureT-loop
 loop-holds : tie.Need-loop-holds Inv-loop μ-loop
 loop-holds c =
     let l = c .args .out .now in
-    let b = bytes (length l) (c .args .value) in
+    let b = bytesOf (length l) (c .args .value) in
     (omega arith, refl, ap (λ (t : List ℕ). b ++ t) (drop-length l) ∙ append-nil b)
 
 loop-again : tie.Need-loop-again Inv-loop μ-loop
@@ -38,7 +38,7 @@ same-length : tie.Need-same-length Inv-loop μ-loop
 same-length c = c .before .loop .inv .1
 
 returns : tie.Need-returns Inv-loop μ-loop
-unfolding bytes
+unfolding bytesOf
 returns c =
     let e : c .before .loop .i ≡ 0 = omega arith in
     rw e at (c .before .loop .inv .2)

@@ -6,7 +6,7 @@ use mathlib.Core.List.{List, _∷_, _++_}
 use Prim.Native.Nat.{ℕ}
 use lib.ListN.{length, set, length-set}
 use borrow.Rule.Slice.PartMut.{putMid}
-use Rattle.packet.specs.Packet.{bytes}
+use Rattle.packet.specs.Packet.{bytesOf}
 use Rattle.packet.proofs.PacketLaws.{length-bytes}
 use Rattle.codec.specs.Verdicts.{verdictLength}
 use Rattle.codec.proofs.VerdictLaws.{room-eight, begun-length, parts-laid}
@@ -44,7 +44,7 @@ returns c =
     let x = s .args .kind in
     parts-laid l x (s .pre) (n .put-number .last .1 .0) (eight n) (w .put-pattern .last .1 .0)
     ∙ ap₂ (λ (ys zs : List ℕ). x ∷ (ys ++ zs))
-    (n .put-number .ensures ∙ ap (λ (k : ℕ). bytes k (s .args .count)) (room-eight l x (s .pre)))
+    (n .put-number .ensures ∙ ap (λ (k : ℕ). bytesOf k (s .args .count)) (room-eight l x (s .pre)))
     (w .put-pattern .ensures)
 
 pub put-parts-spec : {M : Type 1} → statement M

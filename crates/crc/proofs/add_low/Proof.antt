@@ -8,7 +8,7 @@ use borrow.Author.Needs.{needs}
 use lib.Bits.{bitXor, xor-zero-r}
 use lib.ListN.{length, take, drop, getD, length-set, take-append-drop}
 use lib.Seq.{take-length, drop-length, take-set-le, take-take}
-use Rattle.packet.specs.Packet.{Bytes, polynomial, bytes}
+use Rattle.packet.specs.Packet.{Bytes, polynomial, bytesOf}
 use Rattle.packet.proofs.PacketLaws.{bytes-take}
 use Rattle.crc.proofs.AddLaws.{add-low-step}
 use Rattle.crc.proofs.add_low.Statement.{statement}
@@ -18,7 +18,7 @@ record Adding (q p : List ℕ) (value left i : ℕ) : Type 0 where
   within : i ≤ length q
   long : length p ≡ length q
   kept : take i p ≡ take i q
-  sum : bytes i (bitXor (polynomial (take i q)) left) ++ drop i p ≡ bytes (length q) (bitXor (polynomial q) value)
+  sum : bytesOf i (bitXor (polynomial (take i q)) left) ++ drop i p ≡ bytesOf (length q) (bitXor (polynomial q) value)
 
 abbrev Inv-loop : tie.InvT-loop
 Inv-loop packet₀ value left₀ i₀ packet left i = Adding packet₀ packet value left i
@@ -27,15 +27,15 @@ abbrev μ-loop : tie.MeasureT-loop
 μ-loop packet₀ value left₀ i₀ packet left i = i
 
 -- nothing left to add: the bytes stand
-added : {q p : List ℕ} {value i : ℕ} → Bytes q → Adding q p value 0 i → p ≡ bytes (length q) (bitXor (polynomial q) value)
+added : {q p : List ℕ} {value i : ℕ} → Bytes q → Adding q p value 0 i → p ≡ bytesOf (length q) (bitXor (polynomial q) value)
 added {q} {p} {value} {i} b a =
     sym (take-append-drop i p)
-    ∙ ap (λ (t : List ℕ). t ++ drop i p) (a .kept ∙ sym (ap (bytes i) (xor-zero-r (polynomial (take i q))) ∙ bytes-take q b i (a .within)))
+    ∙ ap (λ (t : List ℕ). t ++ drop i p) (a .kept ∙ sym (ap (bytesOf i) (xor-zero-r (polynomial (take i q))) ∙ bytes-take q b i (a .within)))
     ∙ a .sum
 
 -- no byte left: the bytes stand
-through : {q p : List ℕ} {value left : ℕ} → Adding q p value left 0 → p ≡ bytes (length q) (bitXor (polynomial q) value)
-unfolding bytes
+through : {q p : List ℕ} {value left : ℕ} → Adding q p value left 0 → p ≡ bytesOf (length q) (bitXor (polynomial q) value)
+unfolding bytesOf
 through a = a .sum
 
 loop-holds : tie.Need-loop-holds Inv-loop μ-loop
@@ -46,8 +46,8 @@ loop-holds c =
       long = refl;
       kept = refl;
       sum =
-          ap₂ (λ (s t : List ℕ). bytes (length q) (bitXor (polynomial s) (c .args .value)) ++ t) (take-length q) (drop-length q)
-          ∙ append-nil (bytes (length q) (bitXor (polynomial q) (c .args .value)));
+          ap₂ (λ (s t : List ℕ). bytesOf (length q) (bitXor (polynomial s) (c .args .value)) ++ t) (take-length q) (drop-length q)
+          ∙ append-nil (bytesOf (length q) (bitXor (polynomial q) (c .args .value)));
     }
 
 same-length : tie.Need-same-length Inv-loop μ-loop

@@ -3,7 +3,7 @@ use borrow.Author.Needs.{needs}
 use native.Mathlib.Omega.{arith}
 use mathlib.Core.Path.{_≡_, sym}
 use Prim.Native.Nat.{ℕ, _+_}
-use Rattle.patterns.specs.Patterns.{placeOf}
+use Rattle.patterns.specs.Patterns.{pointOf}
 use Rattle.patterns.specs.declared.Mark.{Mark}
 use Rattle.patterns.proofs.FollowLaws.{remaining-ended}
 use Rattle.lines.specs.Text.{textOf}
@@ -13,7 +13,7 @@ use Rattle.lister.specs.declared.Settings.{Settings}
 use Rattle.lister.proofs.list_turn.Statement.{statement}
 use Rattle.lister.proofs.list_turn.Tie as tie
 
-going-at : {s : Settings} {m n : Mark} {count : ℕ} → m ≡ n → Going s (placeOf m) count → Going s (placeOf n) count
+going-at : {s : Settings} {m n : Mark} {count : ℕ} → m ≡ n → Going s (pointOf m) count → Going s (pointOf n) count
 going-at e h = rw e at h
 
 abbrev entry : tie.After-slice-known2 → tie.Start

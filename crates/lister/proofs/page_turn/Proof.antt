@@ -6,7 +6,7 @@ use Prim.Native.Nat.{_≤_}
 use lib.ListN.{length}
 use lib.Seq.{length-take-le}
 use Rattle.base.specs.Outcome.{accepted}
-use Rattle.patterns.specs.Patterns.{placeOf}
+use Rattle.patterns.specs.Patterns.{pointOf}
 use Rattle.patterns.specs.Pages.{Page}
 use Rattle.pages.specs.Conditions.{Request}
 use Rattle.pages.specs.Sequences.{Lending, requestWith}
@@ -33,7 +33,7 @@ lent z = record { steps = z .args .steps .now; firsts = z .args .firsts .now; ou
 abbrev request : tie.Start → Request
 request z = let s = z .args .settings in requestWith (s .generator) (s .bits) (s .limit) (s .syndrome) (lent z)
 
-accepts : (c : tie.After-struct-known) → let z = entry (called c) in pageCall (request z) (placeOf (z .args .mark)) ≡ accepted (page-of c)
+accepts : (c : tie.After-struct-known) → let z = entry (called c) in pageCall (request z) (pointOf (z .args .mark)) ≡ accepted (page-of c)
 accepts c = paged (called c .page .ensures .0) (c .before .before .answer .given .1)
 
 used-within : (c : tie.After-struct-known) → page-of c .used ≤ length (called c .page .last .1 .1 .1 .1 .1 .1 .1 .0)

@@ -13,7 +13,7 @@ use Rattle.poly.proofs.GeneratorLaws.{made-fit}
 use Rattle.packet.specs.Packet.{unfitLength}
 use Rattle.tables.specs.Tables.{unfitTables, rightTables, wrongTables}
 use Rattle.tables.proofs.TableLaws.{fit-lengths, not-wrong}
-use Rattle.patterns.specs.Patterns.{placeOf}
+use Rattle.patterns.specs.Patterns.{pointOf}
 use Rattle.patterns.specs.Listing.{unfitSyndrome}
 use Rattle.pages.specs.Conditions.{pageRequest, pageConditions}
 use Rattle.pages.proofs.judge_page.Statement.{statement}
@@ -22,7 +22,7 @@ use Rattle.pages.proofs.judge_page.Tie as tie
 abbrev conditions : tie.Start → List Condition
 conditions s =
     let a = s .args in
-    pageConditions (pageRequest (a .generator) (a .bits) (a .limit) (a .syndrome) (a .steps .now) (a .firsts .now) (a .output .now)) (placeOf (a .mark))
+    pageConditions (pageRequest (a .generator) (a .bits) (a .limit) (a .syndrome) (a .steps .now) (a .firsts .now) (a .output .now)) (pointOf (a .mark))
 
 -- past each condition: the entry, and what is left to test
 abbrev entry0 : tie.After-unfit-generator → tie.Start

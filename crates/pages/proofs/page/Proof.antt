@@ -11,7 +11,7 @@ use Rattle.poly.specs.declared.Generator.{Generator}
 use Rattle.poly.proofs.GeneratorLaws.{fit-accepted}
 use Rattle.packet.proofs.PacketLaws.{fit-length}
 use Rattle.tables.proofs.TableLaws.{right-unless-wrong}
-use Rattle.patterns.specs.Patterns.{placeOf}
+use Rattle.patterns.specs.Patterns.{pointOf}
 use Rattle.patterns.specs.Listing.{listing}
 use Rattle.patterns.specs.Marks.{remaining}
 use Rattle.patterns.specs.Pages.{pageOf, pageBytes}
@@ -27,11 +27,11 @@ request s =
     pageRequest (a .generator) (a .bits) (a .limit) (a .syndrome) (a .steps .now) (a .firsts .now) (a .output .now)
 
 abbrev conditions : tie.Start → List Condition
-conditions s = pageConditions (request s) (placeOf (s .args .mark))
+conditions s = pageConditions (request s) (pointOf (s .args .mark))
 
 -- what follows the mark, for the list of a generator
 abbrev follow : tie.Start → Generator → List (List ℕ)
-follow s g = remaining (listing (g .degree) (g .coefficients) (s .args .bits) (s .args .limit) (s .args .syndrome)) (placeOf (s .args .mark))
+follow s g = remaining (listing (g .degree) (g .coefficients) (s .args .bits) (s .args .limit) (s .args .syndrome)) (pointOf (s .args .mark))
 
 list-page-requires : tie.Need-list-page-requires
 list-page-requires c κs =
@@ -47,7 +47,7 @@ list-page-requires c κs =
       short = fit-length n (a .bits) (clear 2) .1;
       few = fit-limit (a .limit) (clear 3);
       within = fit-syndrome n (a .syndrome) (clear 4);
-      marked = fit-mark (a .bits) (a .limit) (placeOf (a .mark)) (clear 7);
+      marked = fit-mark (a .bits) (a .limit) (pointOf (a .mark)) (clear 7);
     })
 
 returns : tie.Need-returns

@@ -5,7 +5,7 @@ use Prim.Native.Nat.{ℕ}
 use native.Mathlib.Omega.{arith}
 use borrow.Author.Needs.{needs}
 use lib.ListN.{length}
-use Rattle.patterns.specs.Patterns.{placeOf}
+use Rattle.patterns.specs.Patterns.{pointOf}
 use Rattle.patterns.specs.Marks.{remaining}
 use Rattle.patterns.specs.Pages.{pageOf, pageBytes}
 use Rattle.patterns.specs.Order.{before}
@@ -25,7 +25,7 @@ fill-requires c κs =
     let xs : List (List ℕ) = listedBy (s .args .cursor) l m in
     let e : length next ≡ m = search needs in (
       s .pre .0,
-      (told-fits before l m xs (remaining xs (placeOf (s .args .mark))) (b .begin .result) next (b .begin .ensures) (omega arith), omega (arith, s .pre .1 .1)),
+      (told-fits before l m xs (remaining xs (pointOf (s .args .mark))) (b .begin .result) next (b .begin .ensures) (omega arith), omega (arith, s .pre .1 .1)),
     )
 
 returns : tie.Need-returns
@@ -38,9 +38,9 @@ returns c =
     let next = b .begin .last .1 .1 .1 .1 .0 in
     let xs : List (List ℕ) = listedBy (s .args .cursor) l m in
     let same : length next ≡ m = search needs in
-    let e : aheadOf before (listedBy (s .args .cursor) l (length next)) (b .begin .result) next ≡ remaining xs (placeOf (s .args .mark)) =
+    let e : aheadOf before (listedBy (s .args .cursor) l (length next)) (b .begin .result) next ≡ remaining xs (pointOf (s .args .mark)) =
     ap (λ (k : ℕ). aheadOf before (listedBy (s .args .cursor) l k) (b .begin .result) next) same
-    ∙ sym (told-ahead before l m xs (remaining xs (placeOf (s .args .mark))) (b .begin .result) next (b .begin .ensures)) in (
+    ∙ sym (told-ahead before l m xs (remaining xs (pointOf (s .args .mark))) (b .begin .result) next (b .begin .ensures)) in (
       f .fill .ensures .0 ∙ ap (λ (t : List (List ℕ)). pageOf t (length (s .args .output .now))) e,
       f .fill .ensures .1 ∙ ap (λ (t : List (List ℕ)). pageBytes t (s .args .output .now)) e,
     )

@@ -6,7 +6,7 @@ use native.Mathlib.Omega.{arith}
 use borrow.Author.Needs.{needs}
 use lib.ListN.{length, take}
 use lib.Seq.{length-take-le}
-use Rattle.patterns.specs.Patterns.{mostPositions, placeOf}
+use Rattle.patterns.specs.Patterns.{mostPositions, pointOf}
 use Rattle.patterns.specs.Listing.{listing}
 use Rattle.patterns.specs.Marks.{remaining}
 use Rattle.patterns.specs.Pages.{pageOf, pageBytes}
@@ -38,7 +38,7 @@ page-by-requires c κs =
     let h = entry p .pre .0 in
     let a = entry p .args in (
       prepared (p .prepare .ensures) (a .syndrome) (h .within),
-      subst₂ (λ (l m : ℕ). Marked l m (placeOf (a .mark)) × (m ≤ mostPositions)) (sym (many p)) (sym (length-take-le _ _ (h .few))) (h .marked, h .few),
+      subst₂ (λ (l m : ℕ). Marked l m (pointOf (a .mark)) × (m ≤ mostPositions)) (sym (many p)) (sym (length-take-le _ _ (h .few))) (h .marked, h .few),
     )
 
 returns : tie.Need-returns
@@ -46,7 +46,7 @@ returns c =
     let f = c .before .before .before in
     let p = f .before .before .before .before .before .before in
     let a = entry p .args in
-    let e = ap₂ (λ (l m : ℕ). remaining (listing (a .g .degree) (a .g .coefficients) l m (a .syndrome)) (placeOf (a .mark))) (many p) (length-take-le _ _ (entry p .pre .0 .few)) in (
+    let e = ap₂ (λ (l m : ℕ). remaining (listing (a .g .degree) (a .g .coefficients) l m (a .syndrome)) (pointOf (a .mark))) (many p) (length-take-le _ _ (entry p .pre .0 .few)) in (
       f .page-by .ensures .0 ∙ ap (λ (t : List (List ℕ)). pageOf t (length (a .output .now))) e,
       f .page-by .ensures .1 ∙ ap (λ (t : List (List ℕ)). pageBytes t (a .output .now)) e,
     )

@@ -5,7 +5,7 @@ use mathlib.Core.List.{List}
 use Prim.Native.Nat.{ℕ}
 use Rattle.pages.specs.Conditions.{Request, pageRequest}
 use Rattle.pages.specs.Calls.{pageAnswer, pageCall, pageLeft}
-use Rattle.codec.specs.Marks.{placeOfBytes}
+use Rattle.codec.specs.Marks.{pointOfBytes}
 use Rattle.rangqoda.proofs.CodeLaws.{code-refused, code-accepted, changed-refused, changed-accepted}
 use Rattle.rangqoda.proofs.PageLaws.{accepted-long}
 use Rattle.rangqoda.proofs.rangqoda_page.Statement.{statement}
@@ -15,12 +15,12 @@ use Rattle.rangqoda.proofs.rangqoda_page.Tie as tie
 abbrev request : tie.After-page → Request
 request c =
     let a = c .before .before .before .before .before .before .before .before .args in
-    pageRequest (a .generator) (a .length) (a .limit) (a .syndrome) (a .step .now) (a .first .now) (a .output .now)
+    pageRequest (a .generator) (a .bits) (a .limit) (a .syndrome) (a .step .now) (a .first .now) (a .output .now)
 
 abbrev lent : tie.After-page → List ℕ
 lent c = c .before .before .before .before .before .before .before .before .args .mark .now
 
-judged : (c : tie.After-page) → pageAnswer (c .page .result) ≡ pageCall (request c) (placeOfBytes (lent c))
+judged : (c : tie.After-page) → pageAnswer (c .page .result) ≡ pageCall (request c) (pointOfBytes (lent c))
 judged c = c .page .ensures .0 ∙ ap (pageCall (request c)) (c .before .before .read-mark .ensures)
 
 put-mark-requires : tie.Need-put-mark-requires
