@@ -14,7 +14,7 @@ use Rattle.patterns.specs.Marks.{unfitPattern, unfitMark}
 use Rattle.patterns.specs.Records.{recordOf, longestRecord}
 use Rattle.patterns.proofs.PageLaws.{record-length}
 use Rattle.patterns.proofs.RecordLaws.{record-back}
-use Rattle.codec.specs.Marks.{malformed, placeByKind, pointOfBytes, NoMark, other-length, other-first, padded, markBytes}
+use Rattle.codec.specs.Marks.{malformed, pointByKind, pointOfBytes, NoMark, other-length, other-first, padded, markBytes}
 
 -- ---- bytes that are no mark ----
 
@@ -62,7 +62,7 @@ pub data Short : Point → Type 0 where
   behind : {ps : List ℕ} → length ps ≤ mostPositions → Short (after ps)
 
 -- a record's first byte is neither of the two other kinds
-after-record : (ps t : List ℕ) → length ps ≤ mostPositions → placeByKind (recordOf ps ++ t) ≡ after ps
+after-record : (ps t : List ℕ) → length ps ≤ mostPositions → pointByKind (recordOf ps ++ t) ≡ after ps
 unfolding recordOf
 after-record ps t h =
     let a : length ps ≡ 254 → ⊥ = λ e. omega arith in

@@ -14,15 +14,15 @@ abbrev pub malformed : Point
 malformed = after (0 ∷ 0 ∷ [])
 
 -- the mark that bytes of the right number give, by the first of them
-abbrev pub placeByKind : List ℕ → Point
-placeByKind s =
+abbrev pub pointByKind : List ℕ → Point
+pointByKind s =
     pick (eqb (getD s 0 0) 254) start
     (pick (eqb (getD s 0 0) 255) ended
     (pick (leb (getD s 0 0) mostPositions) (after (recordIn s)) malformed))
 
 -- the mark that bytes give
 unfoldable pub pointOfBytes : List ℕ → Point
-pointOfBytes s = pick (eqb (length s) longestRecord) (placeByKind s) malformed
+pointOfBytes s = pick (eqb (length s) longestRecord) (pointByKind s) malformed
 
 -- bytes that are no mark: more or fewer than a mark has, or with a first byte above the counts of positions and below FEh
 pub data NoMark (s : List ℕ) : Type 0 where
