@@ -11,9 +11,9 @@ use Rattle.base.proofs.Cases.{by-test, by-equal}
 use Rattle.patterns.specs.Patterns.{mostPositions, Point, start, ended, after}
 use Rattle.patterns.specs.Listing.{ascending}
 use Rattle.patterns.specs.Marks.{unfitPattern, unfitMark}
-use Rattle.patterns.specs.Records.{recordOf, longestRecord}
-use Rattle.patterns.proofs.PageLaws.{record-length}
-use Rattle.patterns.proofs.RecordLaws.{record-back}
+use Rattle.records.specs.Records.{recordOf, longestRecord}
+use Rattle.records.proofs.PageLaws.{record-length}
+use Rattle.records.proofs.RecordLaws.{record-back}
 use Rattle.codec.specs.Marks.{malformed, pointByKind, pointOfBytes, NoMark, other-length, other-first, padded, markBytes}
 
 -- ---- bytes that are no mark ----

@@ -9,8 +9,8 @@ use borrow.Rule.Slice.PartMut.{midOf, postOf, putMid, mid-len, same-len-mid}
 use Rattle.packet.specs.Packet.{bytesOf}
 use Rattle.packet.proofs.PacketLaws.{length-bytes}
 use Rattle.patterns.specs.Patterns.{mostPositions}
-use Rattle.patterns.specs.Records.{recordOf, longestRecord}
-use Rattle.patterns.proofs.PageLaws.{record-length}
+use Rattle.records.specs.Records.{recordOf, longestRecord}
+use Rattle.records.proofs.PageLaws.{record-length}
 use Rattle.codec.specs.Marks.{padded}
 use Rattle.codec.specs.Verdicts.{verdictLength, laid}
 use Rattle.codec.proofs.MarkByteLaws.{padded-length}

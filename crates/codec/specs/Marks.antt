@@ -7,7 +7,7 @@ use lib.Dec.{eqb, leb}
 use lib.ListN.{length, getD, replicate}
 use Rattle.base.specs.Outcome.{pick}
 use Rattle.patterns.specs.Patterns.{mostPositions, Point, start, ended, after}
-use Rattle.patterns.specs.Records.{recordOf, longestRecord, recordIn}
+use Rattle.records.specs.Records.{recordOf, longestRecord, recordIn}
 
 -- what bytes that are no mark stand for: no set holds a position twice, so condition 7 refuses it, in its place among the conditions
 abbrev pub malformed : Point

@@ -5,7 +5,7 @@ use lib.Dec.{eqb}
 use lib.ListN.{length, getD}
 use Rattle.base.specs.Outcome.{pick}
 use Rattle.packet.specs.Packet.{bytesOf}
-use Rattle.patterns.specs.Records.{recordOf, longestRecord}
+use Rattle.records.specs.Records.{recordOf, longestRecord}
 use Rattle.verdicts.specs.Verdicts.{Said, intact, repaired, several, nothing}
 use Rattle.codec.specs.Marks.{padded}
 

@@ -1,8 +1,8 @@
 // Marks and verdicts as bytes, as the C functions take and write them.
-use patterns::LONGEST_RECORD;
 use patterns::MOST_POSITIONS;
 use patterns::Mark;
 use patterns::Pattern;
+use records::LONGEST_RECORD;
 use verdicts::Verdict;
 ghost use mathlib.Core.Path.{_≡_};
 ghost use mathlib.Core.List.{[], _∷_};
@@ -10,7 +10,7 @@ ghost use Prim.Native.Nat.{_≤_};
 ghost use lib.ListN.{length, drop, replicate};
 ghost use Rattle.packet.specs.Packet.{bytesOf};
 ghost use Rattle.patterns.specs.Patterns.{mostPositions, positions, pointOf};
-ghost use Rattle.patterns.specs.Records.{recordOf, longestRecord, positionsIn};
+ghost use Rattle.records.specs.Records.{recordOf, longestRecord, positionsIn};
 ghost use Rattle.verdicts.specs.Verdicts.{said};
 ghost use Rattle.codec.specs.Marks.{pointOfBytes, malformed, padded, markBytes};
 ghost use Rattle.codec.specs.Verdicts.{verdictLength, laid, verdictBytes, publishCode};
@@ -53,7 +53,7 @@ fn read_pattern(bytes: &[u8], count: usize) -> Pattern
     ensures { λ r. ⌜ positions r ≡ positionsIn count (drop 1 (now (bytes .entry))) ⌝ }
 {
     let mut held = [0u16; MOST_POSITIONS];
-    patterns::get_positions(&bytes[1..], &mut held);
+    records::get_positions(&bytes[1..], &mut held);
     patterns::from_positions(&held[..count])
 }
 
@@ -93,7 +93,7 @@ fn put_padded(pos: &[u16], bytes: &mut [u8])
     ensures { λ _. ⌜ now (bytes .exit) ≡ padded (recordOf (now (pos .entry))) ⌝ }
 {
     clear(bytes);
-    patterns::put_record(pos, bytes, 0);
+    records::put_record(pos, bytes, 0);
 }
 
 fn put_pattern(p: Pattern, bytes: &mut [u8])

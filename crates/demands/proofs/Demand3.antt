@@ -25,9 +25,9 @@ use Rattle.patterns.specs.Order.{before}
 use Rattle.patterns.specs.StrictOrder.{Sorted}
 use Rattle.patterns.specs.Listing.{syndrome, listing}
 use Rattle.patterns.specs.Marks.{remaining, unfitMark}
-use Rattle.patterns.specs.Records.{records}
-use Rattle.patterns.specs.Pages.{Page, pageOf}
-use Rattle.patterns.specs.Sequences.{joined, reported, reached, Sequence}
+use Rattle.records.specs.Records.{records}
+use Rattle.records.specs.Pages.{Page, pageOf}
+use Rattle.records.specs.Sequences.{joined, reported, reached, Sequence}
 use Rattle.patterns.proofs.ListingLaws.{listed-iff, listed-once, listing-sorted}
 use Rattle.pages.specs.Calls.{pageCall}
 use Rattle.pages.specs.Sequences.{Lending, requestWith, acceptedCalls}

@@ -20,8 +20,8 @@ use Rattle.packet.specs.declared.Crc.{Crc}
 use Rattle.crc.specs.Calls.{packetConditions, remainderCall}
 use Rattle.checksum.specs.declared.Check.{Check}
 use Rattle.patterns.specs.Listing.{syndrome}
-use Rattle.patterns.specs.Records.{records}
-use Rattle.patterns.specs.Sequences.{joined, reported}
+use Rattle.records.specs.Records.{records}
+use Rattle.records.specs.Sequences.{joined, reported}
 use Rattle.patterns.proofs.ParityLaws.{count-parity, listed-parity, counts-differ-by-even}
 use Rattle.pages.specs.Sequences.{Lending, acceptedCalls}
 use Rattle.verdicts.specs.Verdicts.{packetList, Said, repaired, several, verdict}

@@ -11,7 +11,7 @@ use Rattle.checksum.specs.Checksum.{unfitRange}
 use Rattle.checksum.specs.declared.Check.{Check}
 use Rattle.tables.specs.Tables.{stepTable, firstTable}
 use Rattle.patterns.specs.Listing.{unfitLimit}
-use Rattle.patterns.specs.Records.{longestRecord}
+use Rattle.records.specs.Records.{longestRecord}
 use Rattle.pages.specs.Sequences.{Lending}
 use Rattle.repair.specs.Calls.{Repair, repairRequest, unfitCheckField}
 use Rattle.demands.specs.Demand2.{Numbered}

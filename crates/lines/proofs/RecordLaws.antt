@@ -7,8 +7,8 @@ use native.Mathlib.Numerals.{add-one}
 use lib.ListN.{length, getD, drop, length-drop, drop-of-length-le}
 use lib.Seq.{drop-cons, drop-drop, getD-drop}
 use borrow.Author.Tests.{le-leb, lt-leb}
-use Rattle.patterns.specs.Records.{positionsIn, patternsIn, patternsFrom}
-use Rattle.patterns.proofs.RecordLaws.{length-positions, patterns-cons}
+use Rattle.records.specs.Records.{positionsIn, patternsIn, patternsFrom}
+use Rattle.records.proofs.RecordLaws.{length-positions, patterns-cons}
 use Rattle.lines.specs.Decimal.{decimal}
 use Rattle.lines.specs.Text.{spaced, lineOf, textOf}
 

@@ -6,7 +6,7 @@ ghost use Prim.Native.Nat.{_+_, _*_, _<_, _≤_};
 ghost use lib.ListN.{length, drop};
 ghost use lib.Seq.{sets};
 ghost use Rattle.base.specs.Refusals.{number};
-ghost use Rattle.patterns.specs.Records.{positionsIn, patternsIn};
+ghost use Rattle.records.specs.Records.{positionsIn, patternsIn};
 ghost use Rattle.lines.specs.Decimal.{decimal};
 ghost use Rattle.lines.specs.Input.{closing};
 ghost use Rattle.lines.specs.Parsing.{read, readingOf, numbersIn, wholeLine};

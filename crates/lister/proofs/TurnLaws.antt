@@ -19,11 +19,11 @@ use Rattle.tables.specs.Tables.{stepTable, firstTable}
 use Rattle.tables.specs.Calls.{stepsAfter, firstsAfter}
 use Rattle.tables.proofs.TableLaws.{fit-tables}
 use Rattle.patterns.specs.Patterns.{Point, start, ended, after, pointOf}
-use Rattle.patterns.specs.Records.{longestRecord, patternsIn}
-use Rattle.patterns.specs.Pages.{Page}
+use Rattle.records.specs.Records.{longestRecord, patternsIn}
+use Rattle.records.specs.Pages.{Page}
 use Rattle.patterns.proofs.MarkLaws.{fit-limit, fit-syndrome}
 use Rattle.patterns.proofs.CountLaws.{listing-fits}
-use Rattle.patterns.proofs.RecordLaws.{patterns-records}
+use Rattle.records.proofs.RecordLaws.{patterns-records}
 use Rattle.pages.specs.Conditions.{Request}
 use Rattle.pages.specs.Sequences.{Lending, requestWith}
 use Rattle.paging.specs.Results.{pageResult}

@@ -11,7 +11,7 @@ use Rattle.poly.specs.Polynomial.{degree}
 use Rattle.tables.specs.Tables.{stepTable, firstTable}
 use Rattle.patterns.specs.Patterns.{Point, start, ended, after, pointOf}
 use Rattle.patterns.specs.Marks.{remaining, unfitMark}
-use Rattle.patterns.specs.Records.{longestRecord}
+use Rattle.records.specs.Records.{longestRecord}
 use Rattle.lines.specs.Text.{textOf, endLine, refusedLine, badLine}
 use Rattle.lines.specs.Parsing.{numbersIn, wholeLine}
 use Rattle.lines.specs.Writing.{Front, lineRoom}

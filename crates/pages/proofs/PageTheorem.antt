@@ -19,13 +19,13 @@ use Rattle.tables.proofs.TableLaws.{length-stepTable, length-firstTable, fit-ta
 use Rattle.patterns.specs.Patterns.{Point, ended, after}
 use Rattle.patterns.specs.Listing.{follows, unfitLimit, unfitSyndrome}
 use Rattle.patterns.specs.Marks.{remaining, unfitMark}
-use Rattle.patterns.specs.Records.{recordOf, records, longestRecord}
-use Rattle.patterns.specs.Pages.{fitting, lastOf, Page, pageOf, pageBytes}
+use Rattle.records.specs.Records.{recordOf, records, longestRecord}
+use Rattle.records.specs.Pages.{fitting, lastOf, Page, pageOf, pageBytes}
 use Rattle.patterns.proofs.SiftLaws.{sift-in, in-sift}
 use Rattle.patterns.proofs.MarkLaws.{fit-limit, fit-iff}
 use Rattle.patterns.proofs.FollowLaws.{remaining-ended}
 use Rattle.patterns.proofs.ListingLaws.{listed-iff, listed-limit, listing-sorted}
-use Rattle.patterns.proofs.PageLaws.{fitting-take, fitting-length, fitting-most, fitting-unless, page-fits, page-length, page-used, page-kept, page-leaves, next-ended, next-after, last-take}
+use Rattle.records.proofs.PageLaws.{fitting-take, fitting-length, fitting-most, fitting-unless, page-fits, page-length, page-used, page-kept, page-leaves, next-ended, next-after, last-take}
 use Rattle.pages.specs.Conditions.{Request, unfitOutput, pageConditions}
 use Rattle.pages.specs.Calls.{requested, pageCall, pageLeft}
 use Rattle.pages.proofs.ConditionLaws.{fit-output}

@@ -10,10 +10,10 @@ use Rattle.base.specs.Outcome.{accepted}
 use Rattle.poly.specs.Polynomial.{degree}
 use Rattle.patterns.specs.Patterns.{Point, start}
 use Rattle.patterns.specs.Listing.{listing}
-use Rattle.patterns.specs.Pages.{Page}
+use Rattle.records.specs.Pages.{Page}
 use Rattle.patterns.specs.Marks.{unfitMark}
-use Rattle.patterns.specs.Sequences.{calls, Sequence}
-use Rattle.patterns.proofs.SequenceLaws.{listing-sequence}
+use Rattle.records.specs.Sequences.{calls, Sequence}
+use Rattle.records.proofs.SequenceLaws.{listing-sequence}
 use Rattle.pages.specs.Conditions.{pageConditions}
 use Rattle.pages.specs.Calls.{pageCall, pageLeft}
 use Rattle.pages.specs.Sequences.{Lending, requestWith, acceptedCalls}

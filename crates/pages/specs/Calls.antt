@@ -7,7 +7,7 @@ use Rattle.poly.specs.Polynomial.{degree}
 use Rattle.patterns.specs.Patterns.{Point}
 use Rattle.patterns.specs.Listing.{listing}
 use Rattle.patterns.specs.Marks.{remaining}
-use Rattle.patterns.specs.Pages.{Page, pagedBy, leftBy}
+use Rattle.records.specs.Pages.{Page, pagedBy, leftBy}
 use Rattle.paging.specs.Results.{pageResult}
 use Rattle.pages.specs.Conditions.{Request, pageConditions}
 use Rattle.pages.specs.declared.PageAnswer.{PageAnswer}

@@ -12,7 +12,7 @@ use Rattle.tables.specs.Tables.{unfitTables, wrongTables}
 use Rattle.patterns.specs.Patterns.{Point}
 use Rattle.patterns.specs.Listing.{unfitLimit, unfitSyndrome}
 use Rattle.patterns.specs.Marks.{unfitMark}
-use Rattle.patterns.specs.Records.{longestRecord}
+use Rattle.records.specs.Records.{longestRecord}
 
 -- what a page call is given, beside its mark
 pub record Request : Type 0 where

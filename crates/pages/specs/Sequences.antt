@@ -2,7 +2,7 @@
 use Prim.Native.Nat.{ℕ}
 use mathlib.Core.List.{List}
 use Rattle.patterns.specs.Patterns.{start}
-use Rattle.patterns.specs.Sequences.{Call, calls}
+use Rattle.records.specs.Sequences.{Call, calls}
 use Rattle.pages.specs.Conditions.{Request, pageRequest}
 use Rattle.pages.specs.Calls.{pageCall, pageLeft}
 

@@ -2,9 +2,9 @@
 use base::Judgement;
 use base::Refusal;
 use paging::PageResult;
-use patterns::LONGEST_RECORD;
 use patterns::Mark;
 use poly::Generator;
+use records::LONGEST_RECORD;
 ghost use mathlib.Core.Path.{_≡_};
 ghost use Rattle.base.specs.Judged.{judgement, judged};
 ghost use Rattle.patterns.specs.Patterns.{pointOf};

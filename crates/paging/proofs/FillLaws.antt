@@ -10,11 +10,11 @@ use Rattle.base.specs.Lists.{Ascending}
 use Rattle.patterns.specs.Patterns.{mostPositions, Point, ended, after, positions}
 use Rattle.patterns.specs.Order.{before}
 use Rattle.patterns.specs.Listing.{sift}
-use Rattle.patterns.specs.Records.{records, recordOf}
-use Rattle.patterns.specs.Pages.{fitting, lastOf, nextPoint, Page, pageOf, pageBytes}
-use Rattle.patterns.specs.Slices.{RecordPut}
+use Rattle.records.specs.Records.{records, recordOf}
+use Rattle.records.specs.Pages.{fitting, lastOf, nextPoint, Page, pageOf, pageBytes}
+use Rattle.records.specs.Slices.{RecordPut}
 use Rattle.patterns.specs.declared.Pattern.{Pattern}
-use Rattle.patterns.proofs.PageLaws.{record-length, records-longer, page-put, fitting-on, fitting-off, fitting-out, next-ended, next-after}
+use Rattle.records.proofs.PageLaws.{record-length, records-longer, page-put, fitting-on, fitting-off, fitting-out, next-ended, next-after}
 use Rattle.search.specs.Search.{Told}
 use Rattle.search.specs.declared.Found.{Found}
 use Rattle.search.specs.declared.Found.the-variants.{At, Nothing}

@@ -1,6 +1,6 @@
 -- The values of a page's result.
 use Rattle.patterns.specs.Patterns.{pointOf}
-use Rattle.patterns.specs.Pages.{Page}
+use Rattle.records.specs.Pages.{Page}
 use Rattle.paging.specs.declared.PageResult.{PageResult}
 
 abbrev pub pageResult : PageResult → Page

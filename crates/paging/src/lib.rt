@@ -13,7 +13,7 @@ ghost use Rattle.patterns.specs.Patterns.{mostPositions, pointOf};
 ghost use Rattle.patterns.specs.Order.{before};
 ghost use Rattle.patterns.specs.Listing.{listing};
 ghost use Rattle.patterns.specs.Marks.{remaining};
-ghost use Rattle.patterns.specs.Pages.{pageOf, pageBytes};
+ghost use Rattle.records.specs.Pages.{pageOf, pageBytes};
 ghost use Rattle.cursor.specs.Cursors.{Prepared, FoundFits, aheadOf};
 ghost use Rattle.listing.specs.Listings.{Marked, Listable, listedBy};
 ghost use Rattle.paging.specs.Results.{pageResult};
@@ -59,7 +59,7 @@ fn fill(
                     };
                 }
                 last = patterns::from_positions(&pos[..k]);
-                used = patterns::put_record(&pos[..k], output, used);
+                used = records::put_record(&pos[..k], output, used);
                 written += 1;
                 ahead = listing::advance(cursor, pow, first, pos, k);
             }

@@ -1,14 +1,13 @@
 -- What is left of an ascending list after a mark. One law serves every kind of mark: what follows a follower follows.
 use mathlib.Core.Path.{_≡_, refl}
 use mathlib.Core.Bool.{true}
-use mathlib.Core.List.{List, [], _∷_, _++_}
+use mathlib.Core.List.{List, [], _∷_}
 use Prim.Native.Nat.{ℕ}
 use Rattle.patterns.specs.Patterns.{Point, start, ended, after}
 use Rattle.patterns.specs.Order.{before}
 use Rattle.patterns.specs.StrictOrder.{Sorted}
 use Rattle.patterns.specs.Listing.{follows}
 use Rattle.patterns.specs.Marks.{remaining}
-use Rattle.patterns.specs.Pages.{lastOf}
 use Rattle.patterns.proofs.OrderLaws.{before-strict-total}
 use Rattle.patterns.proofs.SiftLaws.{sift-all, sift-none}
 use Rattle.patterns.proofs.SortedLaws.{sorted-next}
@@ -32,9 +31,3 @@ module _ {xs : List (List ℕ)} (sorted : Sorted before xs) where
   pub remaining-next : (m : Point) (q : List ℕ) (rest : List (List ℕ)) → remaining xs m ≡ q ∷ rest → remaining xs (after q) ≡ rest
   unfolding follows
   remaining-next m q rest e = sorted-next before-strict-total (follows m) (follows-on m) sorted q rest e
-
-  -- the same after several
-  pub remaining-last : (m : Point) (w : List ℕ) (ws rest : List (List ℕ)) → remaining xs m ≡ w ∷ (ws ++ rest) → remaining xs (after (lastOf w ws)) ≡ rest
-  unfolding lastOf
-  remaining-last m w [] rest e = remaining-next m w rest e
-  remaining-last m w (v ∷ vs) rest e = remaining-last (after w) v vs rest (remaining-next m w (v ∷ (vs ++ rest)) e)

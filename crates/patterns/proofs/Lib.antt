@@ -9,7 +9,4 @@ pub mod CountLaws
 pub mod WalkLaws
 pub mod ParityLaws
 pub mod MarkLaws
-pub mod PageLaws
 pub mod PositionLaws
-pub mod RecordLaws
-pub mod SequenceLaws

@@ -4,7 +4,4 @@ pub mod Order
 pub mod Listing
 pub mod Walk
 pub mod Marks
-pub mod Records
-pub mod Pages
-pub mod Sequences
 pub mod Slices

@@ -2,20 +2,17 @@
 use poly::Generator;
 ghost use mathlib.Core.Path.{_≡_};
 ghost use mathlib.Core.List.{_++_};
-ghost use Prim.Native.Nat.{_+_, _*_, _<_, _≤_};
+ghost use Prim.Native.Nat.{_≤_};
 ghost use lib.ListN.{length, take, drop};
 ghost use Rattle.poly.specs.Fit.{Fit};
 ghost use Rattle.patterns.specs.Patterns.{mostPositions, positions, pointOf};
 ghost use Rattle.patterns.specs.Order.{lower, before};
 ghost use Rattle.patterns.specs.Listing.{ascending, unfitLimit, unfitSyndrome};
 ghost use Rattle.patterns.specs.Marks.{unfitPattern, unfitMark};
-ghost use Rattle.patterns.specs.Records.{positionsIn};
-ghost use Rattle.patterns.specs.Slices.{spreadOut, RecordPut};
+ghost use Rattle.patterns.specs.Slices.{spreadOut};
 
-// The most positions of a pattern, and the bytes of its record.
+// The most positions of a pattern.
 pub const MOST_POSITIONS: usize = 4;
-
-pub const LONGEST_RECORD: usize = 1 + 2 * MOST_POSITIONS;
 
 // A set of positions, by their count, in ascending order.
 pub enum Pattern {
@@ -191,38 +188,5 @@ pub fn unfit_mark(m: Mark, l: usize, limit: usize) -> bool
         Mark::Start => false,
         Mark::Ended => false,
         Mark::After(p) => unfit_pattern(p, l, limit),
-    }
-}
-
-// The record of some positions, into an output from the byte `at` on; the answer is the place behind it.
-pub fn put_record(pos: &[u16], out: &mut [u8], at: usize) -> usize
-    requires { ⌜ (length (now pos) < 256) × (at + (1 + 2 * length (now pos)) ≤ length (now out)) ⌝ }
-    ensures { λ r. ⌜ RecordPut (now (pos .entry)) (now (out .entry)) at (now (out .exit)) r ⌝ }
-{
-    let n = pos.len();
-    out[at] = n as u8;
-    let mut to = at + 1;
-    let mut i = 0;
-    while i < n {
-        let p = pos[i];
-        out[to] = (p / 256) as u8;
-        out[to + 1] = (p % 256) as u8;
-        to += 2;
-        i += 1;
-    }
-    to
-}
-
-// As many positions as `pos` has room for, read from the start of some bytes.
-pub fn get_positions(bytes: &[u8], pos: &mut [u16])
-    requires { ⌜ 2 * length (now pos) ≤ length (now bytes) ⌝ }
-    ensures { λ _. ⌜ now (pos .exit) ≡ positionsIn (length (now (pos .entry))) (now (bytes .entry)) ⌝ }
-{
-    let mut i: usize = 0;
-    while i < pos.len() {
-        let high = bytes[2 * i] as u16;
-        let low = bytes[2 * i + 1] as u16;
-        pos[i] = high * 256 + low;
-        i += 1;
     }
 }

@@ -11,8 +11,8 @@ use Rattle.base.proofs.Cases.{by-equal}
 use Rattle.base.proofs.JudgeLaws.{judge-applied, judge-clear}
 use Rattle.patterns.specs.Patterns.{mostPositions, Point, start, ended, after}
 use Rattle.patterns.specs.Marks.{remaining, unfitMark}
-use Rattle.patterns.specs.Pages.{Page, pageOf}
-use Rattle.patterns.specs.Records.{longestRecord}
+use Rattle.records.specs.Pages.{Page, pageOf}
+use Rattle.records.specs.Records.{longestRecord}
 use Rattle.patterns.proofs.MarkLaws.{fit-limit, fit-iff}
 use Rattle.pages.specs.Conditions.{Request, pageConditions}
 use Rattle.pages.specs.Calls.{requested, pageCall}

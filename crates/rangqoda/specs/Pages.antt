@@ -2,7 +2,7 @@
 use Prim.Native.Nat.{ℕ}
 use mathlib.Core.List.{List}
 use Rattle.base.specs.Outcome.{Outcome}
-use Rattle.patterns.specs.Pages.{Page}
+use Rattle.records.specs.Pages.{Page}
 use Rattle.rangqoda.specs.Codes.{changed}
 use Rattle.codec.specs.Marks.{markBytes}
 

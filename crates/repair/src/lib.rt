@@ -13,7 +13,7 @@ ghost use Rattle.base.specs.Judged.{judgement, judged};
 ghost use Rattle.packet.specs.Packet.{bits, crcOf};
 ghost use Rattle.cursor.specs.Cursors.{RightTables};
 ghost use Rattle.verdicts.specs.Verdicts.{said, verdict, outputFor};
-ghost use Rattle.verdicts.specs.Tallies.{Settleable};
+ghost use Rattle.verdicts.specs.Settling.{Settleable};
 ghost use Rattle.repair.specs.Calls.{
   repairRequest,
   unfitCheckField,

@@ -1,3 +1,3 @@
-pub mod TallyLaws
+pub mod SettledLaws
 pub mod VerdictLaws
 pub mod SentLaws

@@ -1,2 +1,2 @@
 pub mod Verdicts
-pub mod Tallies
+pub mod Settling

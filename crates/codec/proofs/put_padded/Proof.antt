@@ -3,7 +3,7 @@ use borrow.Author.Needs.{needs}
 use mathlib.Core.Path.{ap, _∙_}
 use Prim.Native.Nat.{ℕ}
 use lib.ListN.{replicate}
-use Rattle.patterns.specs.Records.{recordOf}
+use Rattle.records.specs.Records.{recordOf}
 use Rattle.codec.proofs.MarkByteLaws.{record-over-zeros}
 use Rattle.codec.proofs.put_padded.Statement.{statement}
 use Rattle.codec.proofs.put_padded.Tie as tie

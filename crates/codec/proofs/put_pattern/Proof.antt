@@ -6,7 +6,7 @@ use Prim.Native.Nat.{ℕ, _≤_}
 use lib.ListN.{length, take}
 use lib.Seq.{length-take-le}
 use Rattle.patterns.specs.Patterns.{positions}
-use Rattle.patterns.specs.Records.{recordOf}
+use Rattle.records.specs.Records.{recordOf}
 use Rattle.patterns.proofs.PositionLaws.{positions-most, spread-holds, spread-held}
 use Rattle.codec.specs.Marks.{padded}
 use Rattle.codec.proofs.put_pattern.Statement.{statement}

@@ -7,8 +7,8 @@ use Prim.Native.Nat.{ℕ, _-_, _≤_}
 use lib.ListN.{length, drop, take, length-drop}
 use lib.Seq.{take-all, length-take-le}
 use Rattle.patterns.specs.Patterns.{mostPositions}
-use Rattle.patterns.specs.Records.{positionsIn}
-use Rattle.patterns.proofs.RecordLaws.{length-positions, positions-take}
+use Rattle.records.specs.Records.{positionsIn}
+use Rattle.records.proofs.RecordLaws.{length-positions, positions-take}
 use Rattle.codec.proofs.read_pattern.Statement.{statement}
 use Rattle.codec.proofs.read_pattern.Tie as tie
 

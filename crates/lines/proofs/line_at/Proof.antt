@@ -7,7 +7,7 @@ use lib.ListN.{length, drop}
 use lib.Seq.{length-sets}
 use Rattle.lines.specs.Decimal.{decimal}
 use Rattle.lines.specs.Text.{spaced}
-use Rattle.patterns.specs.Records.{positionsIn}
+use Rattle.records.specs.Records.{positionsIn}
 use Rattle.lines.proofs.DecimalLaws.{decimal-length}
 use Rattle.lines.proofs.RecordLaws.{line-text}
 use Rattle.lines.proofs.WritingLaws.{Writing, writing-start, writing-byte, writing-part, writing-stored}

@@ -5,7 +5,7 @@ use Prim.Native.Nat.{_+_, _-_, _*_, _≤_}
 use borrow.Author.Needs.{needs}
 use lib.ListN.{length, getD, drop}
 use Rattle.lines.specs.Text.{lineOf, textOf}
-use Rattle.patterns.specs.Records.{positionsIn, patternsIn}
+use Rattle.records.specs.Records.{positionsIn, patternsIn}
 use Rattle.lines.proofs.RecordLaws.{text-past, text-cut, text-step}
 use Rattle.lines.proofs.WritingLaws.{Writing, writing-start, writing-part, writing-stored, stored-front}
 use native.Mathlib.Omega.{arith}

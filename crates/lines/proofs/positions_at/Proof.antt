@@ -7,7 +7,7 @@ use lib.ListN.{length, getD, drop, length-set}
 use Rattle.lines.specs.Decimal.{decimal}
 use Rattle.lines.specs.Text.{spaced}
 use Rattle.lines.specs.Writing.{Stored}
-use Rattle.patterns.specs.Records.{positionsIn}
+use Rattle.records.specs.Records.{positionsIn}
 use Rattle.lines.proofs.DecimalLaws.{decimal-length, two-bytes-fit}
 use Rattle.lines.proofs.RecordLaws.{spaced-step, spaced-none}
 use Rattle.lines.proofs.WritingLaws.{Writing, writing-start, writing-byte, writing-part, writing-stored, stored-as}

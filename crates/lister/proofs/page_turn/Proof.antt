@@ -7,7 +7,7 @@ use lib.ListN.{length}
 use lib.Seq.{length-take-le}
 use Rattle.base.specs.Outcome.{accepted}
 use Rattle.patterns.specs.Patterns.{pointOf}
-use Rattle.patterns.specs.Pages.{Page}
+use Rattle.records.specs.Pages.{Page}
 use Rattle.pages.specs.Conditions.{Request}
 use Rattle.pages.specs.Sequences.{Lending, requestWith}
 use Rattle.paging.specs.Results.{pageResult}

@@ -14,7 +14,7 @@ use Rattle.tables.proofs.TableLaws.{right-unless-wrong}
 use Rattle.patterns.specs.Patterns.{pointOf}
 use Rattle.patterns.specs.Listing.{listing}
 use Rattle.patterns.specs.Marks.{remaining}
-use Rattle.patterns.specs.Pages.{pageOf, pageBytes}
+use Rattle.records.specs.Pages.{pageOf, pageBytes}
 use Rattle.patterns.proofs.MarkLaws.{fit-limit, fit-syndrome}
 use Rattle.listing.proofs.MarkedLaws.{fit-mark}
 use Rattle.pages.specs.Conditions.{Request, pageRequest, pageConditions}

@@ -6,7 +6,7 @@ use native.Mathlib.Omega.{arith}
 use borrow.Author.Needs.{needs}
 use lib.ListN.{length, take}
 use lib.Seq.{length-take-le}
-use Rattle.patterns.proofs.PageLaws.{record-length}
+use Rattle.records.proofs.PageLaws.{record-length}
 use Rattle.patterns.specs.Order.{before}
 use Rattle.cursor.specs.Cursors.{aheadOf}
 use Rattle.cursor.proofs.AheadLaws.{told-from}

@@ -7,7 +7,7 @@ use borrow.Author.Needs.{needs}
 use lib.ListN.{length}
 use Rattle.patterns.specs.Patterns.{pointOf}
 use Rattle.patterns.specs.Marks.{remaining}
-use Rattle.patterns.specs.Pages.{pageOf, pageBytes}
+use Rattle.records.specs.Pages.{pageOf, pageBytes}
 use Rattle.patterns.specs.Order.{before}
 use Rattle.cursor.specs.Cursors.{aheadOf}
 use Rattle.cursor.proofs.AheadLaws.{told-ahead, told-fits}

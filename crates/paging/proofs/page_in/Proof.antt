@@ -9,7 +9,7 @@ use lib.Seq.{length-take-le}
 use Rattle.patterns.specs.Patterns.{mostPositions, pointOf}
 use Rattle.patterns.specs.Listing.{listing}
 use Rattle.patterns.specs.Marks.{remaining}
-use Rattle.patterns.specs.Pages.{pageOf, pageBytes}
+use Rattle.records.specs.Pages.{pageOf, pageBytes}
 use Rattle.cursor.specs.Cursors.{Serves}
 use Rattle.cursor.proofs.LookupLaws.{as-long, prepared}
 use Rattle.listing.specs.Listings.{Marked}

@@ -1,5 +1,5 @@
 -- `by_tally` says none, repaired or several as the tally counts none, one or more.
-use Rattle.verdicts.proofs.TallyLaws.{settled-none, settled-one, settled-more}
+use Rattle.verdicts.proofs.SettledLaws.{settled-none, settled-one, settled-more}
 use Rattle.verdicts.proofs.by_tally.Statement.{statement}
 use Rattle.verdicts.proofs.by_tally.Tie as tie
 

@@ -15,7 +15,7 @@ use Rattle.weighing.proofs.WeighedLaws.{weighed-check, weighed-weighs}
 use Rattle.patterns.specs.Listing.{listing, sift}
 use Rattle.cursor.proofs.LookupLaws.{as-long, prepared}
 use Rattle.verdicts.specs.Verdicts.{passesBoth, candidates}
-use Rattle.verdicts.specs.Tallies.{Tallied}
+use Rattle.tallies.specs.Tallies.{Tallied}
 use Rattle.verdicts.proofs.settle.Statement.{statement}
 use Rattle.verdicts.proofs.settle.Tie as tie
 

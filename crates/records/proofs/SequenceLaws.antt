@@ -12,18 +12,18 @@ use Rattle.base.specs.Lists.{In, here}
 use Rattle.base.specs.Outcome.{Outcome, refused, accepted, Condition, judge}
 use Rattle.base.proofs.Cases.{by-order}
 use Rattle.base.proofs.JudgeLaws.{judge-accepted, judge-value}
 use Rattle.patterns.specs.Patterns.{Point, start, ended, after}
 use Rattle.patterns.specs.Order.{before}
 use Rattle.patterns.specs.StrictOrder.{Sorted}
 use Rattle.patterns.specs.Listing.{listing}
 use Rattle.patterns.specs.Marks.{remaining}
-use Rattle.patterns.specs.Records.{records}
-use Rattle.patterns.specs.Pages.{fitting, lastOf, nextPoint, Page, pageOf, pageBytes, pagedBy, leftBy}
-use Rattle.patterns.specs.Sequences.{Call, calls, joined, reported, reached, CountsUp, none, adds, Sequence}
+use Rattle.records.specs.Records.{records}
+use Rattle.records.specs.Pages.{fitting, lastOf, nextPoint, Page, pageOf, pageBytes, pagedBy, leftBy}
+use Rattle.records.specs.Sequences.{Call, calls, joined, reported, reached, CountsUp, none, adds, Sequence}
 use Rattle.patterns.proofs.SiftLaws.{sift-in}
 use Rattle.patterns.proofs.FollowLaws.{remaining-start}
 use Rattle.patterns.proofs.ListingLaws.{listing-sorted, listed-limit}
-use Rattle.patterns.proofs.PageLaws.{records-append, fitting-take, fitting-length, fitting-unless, page-length, page-used, page-leaves, next-ended, next-after, last-take}
+use Rattle.records.proofs.PageLaws.{records-append, fitting-take, fitting-length, fitting-unless, page-length, page-used, page-leaves, next-ended, next-after, last-take}
 
 -- the calls over the list xs: each request brings an output of its own, and its conditions at a mark
 abbrev pub pageCalls : {Request : Type 0} → List (List ℕ) → (Request → List ℕ) → (Request → Point → List Condition) → Point → List Request → List Call

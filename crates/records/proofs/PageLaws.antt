@@ -11,13 +11,13 @@ use lib.ListN.{length, take, drop, getD, length-append, length-drop, drop-of-len
 use lib.Seq.{take-append-seam, drop-append-seam, drop-append-add, drop-drop, append-snoc}
 use Rattle.base.specs.Lists.{In, here}
 use Rattle.base.proofs.Cases.{by-test, by-order}
 use Rattle.patterns.specs.Patterns.{Point, ended, after}
 use Rattle.patterns.specs.Order.{before}
 use Rattle.patterns.specs.StrictOrder.{Sorted}
 use Rattle.patterns.specs.Marks.{remaining}
-use Rattle.patterns.specs.Records.{positionBytes, recordOf, records}
-use Rattle.patterns.specs.Pages.{fitting, lastOf, nextPoint, pageOf, pageBytes}
-use Rattle.patterns.proofs.FollowLaws.{remaining-ended, remaining-last}
+use Rattle.records.specs.Records.{positionBytes, recordOf, records}
+use Rattle.records.specs.Pages.{fitting, lastOf, nextPoint, pageOf, pageBytes}
+use Rattle.patterns.proofs.FollowLaws.{remaining-next, remaining-ended}
 
 -- ---- records ----
 
@@ -177,10 +177,16 @@ last-take p (suc k) (x ∷ xs) h = last-take x k xs (omega arith)
 -- ---- what a page leaves ----
 
 module _ {xs : List (List ℕ)} (sorted : Sorted before xs) where
+  -- what follows the last of several that follow a mark
+  remaining-last : (m : Point) (w : List ℕ) (ws rest : List (List ℕ)) → remaining xs m ≡ w ∷ (ws ++ rest) → remaining xs (after (lastOf w ws)) ≡ rest
+  unfolding lastOf
+  remaining-last m w [] rest e = remaining-next sorted m w rest e
+  remaining-last m w (v ∷ vs) rest e = remaining-last (after w) v vs rest (remaining-next sorted m w (v ∷ (vs ++ rest)) e)
+
   after-written : (m : Point) (written rest : List (List ℕ)) → remaining xs m ≡ written ++ rest → 1 ≤ length written → remaining xs (after (lastOf [] written)) ≡ rest
   unfolding lastOf
   after-written m [] rest e h = absurd (omega arith)
-  after-written m (w ∷ ws) rest e h = remaining-last sorted m w ws rest e
+  after-written m (w ∷ ws) rest e h = remaining-last m w ws rest e
 
   -- what follows the mark that a page returns is what followed its own, less what it wrote
   pub page-leaves : (m : Point) (room : ℕ) → (1 ≤ length (remaining xs m) → 1 ≤ length (fitting room (remaining xs m)))

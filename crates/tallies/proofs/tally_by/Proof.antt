@@ -13,10 +13,10 @@ use Rattle.patterns.proofs.CountLaws.{walk-fits}
 use Rattle.patterns.proofs.WalkLaws.{walk-meets, met-in-any-order}
 use Rattle.cursor.specs.Cursors.{walkedBy}
 use Rattle.cursor.proofs.AheadLaws.{told-fits}
-use Rattle.verdicts.specs.Tallies.{Tallied}
-use Rattle.verdicts.proofs.TallyLaws.{started}
-use Rattle.verdicts.proofs.tally_by.Statement.{statement}
-use Rattle.verdicts.proofs.tally_by.Tie as tie
+use Rattle.tallies.specs.Tallies.{Tallied}
+use Rattle.tallies.proofs.TallyLaws.{started}
+use Rattle.tallies.proofs.tally_by.Statement.{statement}
+use Rattle.tallies.proofs.tally_by.Tie as tie
 
 -- the search keeps the slice's length
 kept : (c : tie.After-meet-first) → length (c .meet-first .last .1 .1 .1 .0) ≡ length (c .before .before .before .before .before .before .args .pos .now)

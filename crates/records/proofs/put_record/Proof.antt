@@ -5,11 +5,11 @@ use mathlib.Core.Path.{_≡_, refl, sym, _∙_}
 use Prim.Native.Nat.{_+_, _*_, _-_, _/_, _%_, _≤_}
 use lib.ListN.{length, drop, getD, set, length-set}
 use lib.Seq.{sets}
-use Rattle.patterns.specs.Records.{positionBytes}
-use Rattle.patterns.proofs.PageLaws.{record-length}
-use Rattle.patterns.proofs.RecordLaws.{put-turn, put-done, put-whole}
-use Rattle.patterns.proofs.put_record.Statement.{statement}
-use Rattle.patterns.proofs.put_record.Tie as tie
+use Rattle.records.specs.Records.{positionBytes}
+use Rattle.records.proofs.PageLaws.{record-length}
+use Rattle.records.proofs.RecordLaws.{put-turn, put-done, put-whole}
+use Rattle.records.proofs.put_record.Statement.{statement}
+use Rattle.records.proofs.put_record.Tie as tie
 
 abbrev Inv-loop : tie.InvT-loop
 Inv-loop pos out₀ at n to₀ i₀ out to i =

@@ -4,8 +4,8 @@ use mathlib.Core.List.{List, [], _∷_, _++_}
 use lib.Dec.{eqb, leb}
 use lib.ListN.{length, drop}
 use Rattle.base.specs.Outcome.{Outcome, refused, accepted, Condition, judge, pick}
 use Rattle.patterns.specs.Patterns.{Point, ended, after}
-use Rattle.patterns.specs.Records.{recordOf, records}
+use Rattle.records.specs.Records.{recordOf, records}
 
 -- the first patterns whose records fit whole into so many bytes, up to the first that does not
 unfoldable pub fitting : ℕ → List (List ℕ) → List (List ℕ)

@@ -4,9 +4,9 @@ use native.Mathlib.Omega.{arith}
 use borrow.Author.Needs.{needs}
 use lib.Seq.{take-all}
 use Rattle.patterns.specs.Patterns.{mostPositions, positions}
-use Rattle.verdicts.proofs.TallyLaws.{one-fails, first-passes, earlier-passes, later-passes}
-use Rattle.verdicts.proofs.tally_one.Statement.{statement}
-use Rattle.verdicts.proofs.tally_one.Tie as tie
+use Rattle.tallies.proofs.TallyLaws.{one-fails, first-passes, earlier-passes, later-passes}
+use Rattle.tallies.proofs.tally_one.Statement.{statement}
+use Rattle.tallies.proofs.tally_one.Tie as tie
 
 returns : tie.Need-returns
 returns c = let a = c .before .before .args in one-fails (a .ok) (a .pos .now) (c .if1 .taken)

@@ -1,4 +1,4 @@
--- Tallies of patterns that pass, in whatever order they are met: one more, all of a walk, and the verdict by a tally.
+-- Tallies of patterns that pass, in whatever order they are met: one more, and all of a walk.
 use mathlib.Core.Path.{_≡_, refl, sym, ap, ap₂, subst, _∙_}
 use mathlib.Core.Bool.{Bool, true, false, not}
 use mathlib.Core.List.{List, [], _∷_, _++_, append-nil, append-assoc}
@@ -22,9 +22,8 @@ use Rattle.search.specs.declared.Found.{Found}
 use Rattle.search.specs.declared.Found.the-variants.{At, Nothing}
 use Rattle.cursor.specs.Cursors.{FoundFits, aheadOf}
 use Rattle.cursor.proofs.AheadLaws.{told-ahead, told-ahead-of}
-use Rattle.verdicts.specs.Tallies.{firstOf, Tallied, added, New}
-use Rattle.verdicts.specs.Verdicts.{nothing, repaired, several, settled}
-use Rattle.verdicts.specs.declared.Tally.{Tally}
+use Rattle.tallies.specs.Tallies.{firstOf, Tallied, added, New}
+use Rattle.tallies.specs.declared.Tally.{Tally}
 
 -- ---- one candidate
 
@@ -172,20 +171,3 @@ module _ {P : List ℕ → Bool} {l m : ℕ} {xs rest : List (List ℕ)} {pos : 
 -- a search from the start leads the whole walk
 pub started : (l m : ℕ) (xs : List (List ℕ)) (r : Found) (pos : List ℕ) → Told byPositions l m xs xs r pos → aheadOf byPositions xs r pos ≡ xs
 started l m xs r pos h = sym (told-ahead byPositions l m xs xs r pos h)
-
--- ---- the verdict by a tally
-
-pub settled-none : {t : Tally} → t .count ≡ 0 → (kept : List (List ℕ)) → Tallied kept t → nothing ≡ settled kept
-settled-none z [] h = refl
-settled-none z (k ∷ kept) h = absurd (omega (arith, h .number))
-
-pub settled-one : {t : Tally} → t .count ≡ 1 → (kept : List (List ℕ)) → Tallied kept t → repaired (positions (t .chosen)) ≡ settled kept
-settled-one z [] h = absurd (omega (arith, h .number))
-settled-one z (k ∷ []) h = ap repaired (h .first)
-settled-one z (k ∷ j ∷ kept) h = absurd (omega (arith, h .number))
-
-pub settled-more : {t : Tally} → (t .count ≡ 0 → ⊥) → (t .count ≡ 1 → ⊥) → (kept : List (List ℕ)) → Tallied kept t
-    → several (t .count) (positions (t .chosen)) ≡ settled kept
-settled-more z o [] h = absurd (z (h .number))
-settled-more z o (k ∷ []) h = absurd (o (h .number))
-settled-more z o (k ∷ j ∷ kept) h = ap₂ several (h .number) (h .first)

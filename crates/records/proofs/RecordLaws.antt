@@ -9,8 +9,8 @@ use lib.Dec.{leb}
 use lib.ListN.{length, take, drop, getD, set, drop-of-length-le, length-append, length-drop}
 use lib.Seq.{drop-cons, drop-at, getD-drop, ext-getD, sets, sets-eq}
 use Rattle.base.specs.Outcome.{pick}
-use Rattle.patterns.specs.Records.{positionBytes, recordOf, records, positionsIn, recordIn, patternsFrom, patternsIn}
-use Rattle.patterns.proofs.PageLaws.{positionBytes-length, record-length}
+use Rattle.records.specs.Records.{positionBytes, recordOf, records, positionsIn, recordIn, patternsFrom, patternsIn}
+use Rattle.records.proofs.PageLaws.{positionBytes-length, record-length}
 
 -- the two bytes of one position
 pub put-turn : (ps out whole : List ℕ) (to i : ℕ) → i < length ps → sets out to (positionBytes (drop i ps)) ≡ whole

@@ -4,9 +4,9 @@ use mathlib.Core.Path.{_≡_}
 use mathlib.Core.List.{List, [], _∷_, _++_}
 use lib.ListN.{length, take, drop, getD}
 use Rattle.base.specs.Outcome.{Outcome, refused, accepted}
 use Rattle.patterns.specs.Patterns.{Point, start, ended, after}
-use Rattle.patterns.specs.Records.{records}
-use Rattle.patterns.specs.Pages.{fitting, Page}
+use Rattle.records.specs.Records.{records}
+use Rattle.records.specs.Pages.{fitting, Page}
 
 -- ---- a sequence of calls ----
 

@@ -15,9 +15,9 @@ use Rattle.patterns.proofs.WalkLaws.{walk-sorted}
 use Rattle.search.specs.Search.{Told}
 use Rattle.cursor.specs.Cursors.{walkedBy, aheadOf}
 use Rattle.cursor.proofs.AheadLaws.{told-from}
-use Rattle.verdicts.proofs.TallyLaws.{Tallying, tallying-none, tallied-all, tallying-more, tally-falls, found-placed, countable, new}
-use Rattle.verdicts.proofs.tally_from.Statement.{statement}
-use Rattle.verdicts.proofs.tally_from.Tie as tie
+use Rattle.tallies.proofs.TallyLaws.{Tallying, tallying-none, tallied-all, tallying-more, tally-falls, found-placed, countable, new}
+use Rattle.tallies.proofs.tally_from.Statement.{statement}
+use Rattle.tallies.proofs.tally_from.Tie as tie
 
 abbrev Inv-loop : tie.InvT-loop
 Inv-loop cursor pow first pos₀ w packet ahead₀ t₀ pos ahead t =

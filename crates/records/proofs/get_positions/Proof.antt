@@ -6,9 +6,9 @@ use native.Mathlib.Omega.{arith}
 use borrow.Author.Count.{below-more}
 use lib.ListN.{length, getD, set, length-set}
 use lib.Seq.{getD-set-same, getD-set-other}
-use Rattle.patterns.proofs.RecordLaws.{positions-by-entries}
-use Rattle.patterns.proofs.get_positions.Statement.{statement}
-use Rattle.patterns.proofs.get_positions.Tie as tie
+use Rattle.records.proofs.RecordLaws.{positions-by-entries}
+use Rattle.records.proofs.get_positions.Statement.{statement}
+use Rattle.records.proofs.get_positions.Tie as tie
 
 -- the position in the bytes 2k and 2k + 1
 abbrev joined : List ℕ → ℕ → ℕ

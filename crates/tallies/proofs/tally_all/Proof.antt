@@ -10,9 +10,9 @@ use Rattle.packet.specs.Packet.{flips}
 use Rattle.checksum.specs.Checksum.{passes}
 use Rattle.patterns.specs.Patterns.{mostPositions}
 use Rattle.patterns.specs.Listing.{listing, sift}
-use Rattle.verdicts.specs.Tallies.{Tallied}
-use Rattle.verdicts.proofs.tally_all.Statement.{statement}
-use Rattle.verdicts.proofs.tally_all.Tie as tie
+use Rattle.tallies.specs.Tallies.{Tallied}
+use Rattle.tallies.proofs.tally_all.Statement.{statement}
+use Rattle.tallies.proofs.tally_all.Tie as tie
 
 slice-aggregate-tally-by : tie.Need-slice-aggregate-tally-by
 slice-aggregate-tally-by c = sym (length-take-le _ _ (c .before .before .before .before .pre .3))
