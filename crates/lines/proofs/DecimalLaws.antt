@@ -7,7 +7,8 @@ use lib.ListN.{length, getD, length-append, List·getD-append}
 use borrow.Author.Tests.{lt-ltb, le-ltb}
 use Rattle.base.specs.Lists.{All, none, each}
 use Rattle.base.proofs.Cases.{by-order}
-use Rattle.lines.specs.Decimal.{digitsOf, decimal, Digit, valueFrom, valueOf}
+use Rattle.parsing.specs.Input.{Digit, valueFrom, valueOf}
+use Rattle.lines.specs.Decimal.{digitsOf, decimal}
 
 -- more divisions than are needed change nothing
 digitsOf-enough : (more less v : ℕ) → v ≤ more → v ≤ less → digitsOf more v ≡ digitsOf less v

@@ -3,7 +3,7 @@ use base::Refusal;
 
 // As many numbers as there is room for, and whether the input is a line of so many.
 fn read_into(input: &[u8], numbers: &mut [u64]) {
-    let whole = lines::parse(input, numbers);
+    let whole = parsing::parse(input, numbers);
     testkit::print_numbers(numbers);
     if whole {
         testkit::print(b"line\n");

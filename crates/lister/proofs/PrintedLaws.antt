@@ -8,10 +8,10 @@ use native.Mathlib.Omega.{arith}
 use lib.ListN.{length, getD, take, length-append}
 use lib.Seq.{sets, length-take-le, take-all}
 use Rattle.base.proofs.Cases.{by-test, by-order}
-use Rattle.lines.specs.Input.{closing, IsLine, no-more, one-more}
+use Rattle.parsing.specs.Input.{closing, IsLine, no-more, one-more}
 use Rattle.lines.specs.Text.{badLine}
-use Rattle.lines.specs.Parsing.{numbersIn, wholeLine}
-use Rattle.lines.proofs.InputLaws.{line-read, read-line}
+use Rattle.parsing.specs.Parsing.{numbersIn, wholeLine}
+use Rattle.parsing.proofs.InputLaws.{line-read, read-line}
 use Rattle.lister.specs.Printed.{printedFor, Prints, for-line, for-other}
 use Rattle.lister.specs.Turns.{longestLine, printed}
 

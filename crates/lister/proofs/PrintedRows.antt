@@ -9,7 +9,7 @@ use Rattle.patterns.specs.Order.{keyed, lower, before}
 use Rattle.patterns.specs.Listing.{syndrome, choose, upTo, sift, inserted, inOrder, listing, unfitLimit, unfitSyndrome}
 use Rattle.lines.specs.Decimal.{digitsOf, decimal}
 use Rattle.lines.specs.Text.{spaced, lineOf, textOf, endLine, refusedLine, badLine}
-use Rattle.lines.specs.Parsing.{readFrom, read, numbersIn, wholeLine}
+use Rattle.parsing.specs.Parsing.{readFrom, read, numbersIn, wholeLine}
 use Rattle.lister.specs.Printed.{unfitListed}
 use Rattle.lister.specs.Turns.{printed}
 

@@ -10,7 +10,7 @@ use Rattle.poly.specs.Generators.{unfit}
 use Rattle.packet.specs.Packet.{unfitLength}
 use Rattle.patterns.specs.Listing.{listing, unfitLimit, unfitSyndrome}
 use Rattle.lines.specs.Text.{textOf, endLine, refusedLine, badLine}
-use Rattle.lines.specs.Input.{IsLine}
+use Rattle.parsing.specs.Input.{IsLine}
 
 -- the greatest degree that the program lists
 abbrev pub greatestListed : ℕ

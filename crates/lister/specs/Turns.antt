@@ -13,7 +13,7 @@ use Rattle.patterns.specs.Patterns.{Point, start, ended, after, pointOf}
 use Rattle.patterns.specs.Marks.{remaining, unfitMark}
 use Rattle.records.specs.Records.{longestRecord}
 use Rattle.lines.specs.Text.{textOf, endLine, refusedLine, badLine}
-use Rattle.lines.specs.Parsing.{numbersIn, wholeLine}
+use Rattle.parsing.specs.Parsing.{numbersIn, wholeLine}
 use Rattle.lines.specs.Writing.{Front, lineRoom}
 use Rattle.lister.specs.declared.Settings.{Settings}
 use Rattle.lister.specs.declared.Due.{Due}

@@ -112,7 +112,7 @@ fn judge_input(input: &[u8]) -> Due
     ensures sound { λ r. ⌜ Sound r ⌝ }
 {
     let mut numbers = [0u64; 4];
-    if lines::parse(input, &mut numbers) {
+    if parsing::parse(input, &mut numbers) {
         return ask(
             numbers[0],
             numbers[1] as usize,

@@ -2,8 +2,8 @@
 use borrow.Author.Needs.{needs}
 use mathlib.Core.Path.{_≡_, sym, _∙_}
 use mathlib.Core.Bool.{true}
-use Rattle.lines.specs.Parsing.{numbersIn, wholeLine}
-use Rattle.lines.proofs.InputLaws.{read-line}
+use Rattle.parsing.specs.Parsing.{numbersIn, wholeLine}
+use Rattle.parsing.proofs.InputLaws.{read-line}
 use Rattle.lister.proofs.PrintedLaws.{sets-four}
 use Rattle.lister.proofs.judge_input.Statement.{statement}
 use Rattle.lister.proofs.judge_input.Tie as tie

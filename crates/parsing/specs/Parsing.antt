@@ -6,9 +6,9 @@ use mathlib.Core.List.{List, [], _∷_}
 use lib.Dec.{eqb, ltb, leb}
 use lib.ListN.{drop}
 use Rattle.base.specs.Outcome.{pick}
-use Rattle.lines.specs.declared.Numeral.{Numeral}
-use Rattle.lines.specs.declared.Numeral.the-variants.{Number, Missing}
-use Rattle.lines.specs.Input.{closing}
+use Rattle.parsing.specs.declared.Numeral.{Numeral}
+use Rattle.parsing.specs.declared.Numeral.the-variants.{Number, Missing}
+use Rattle.parsing.specs.Input.{closing}
 
 -- is a byte a decimal digit?
 abbrev pub isDigit : ℕ → Bool

@@ -8,9 +8,9 @@ use native.Mathlib.Numerals.{add-one}
 use native.Mathlib.Nat.{pow-le-pow-right}
 use lib.ListN.{length, getD, drop, drop-of-length-le}
 use lib.Seq.{drop-cons}
-use Rattle.lines.specs.Decimal.{Digit}
-use Rattle.lines.specs.Parsing.{isDigit, numeral, missing, readFrom, read}
-use Rattle.lines.proofs.InputLaws.{read-digit, read-other, readFrom-close, readFrom-full, readFrom-other, readFrom-digit}
+use Rattle.parsing.specs.Input.{Digit}
+use Rattle.parsing.specs.Parsing.{isDigit, numeral, missing, readFrom, read}
+use Rattle.parsing.proofs.InputLaws.{read-digit, read-other, readFrom-close, readFrom-full, readFrom-other, readFrom-digit}
 
 module _ (close : ℕ) (s : List ℕ) (at : ℕ) where
   pub read-past : length s ≤ at → read close (drop at s) ≡ missing

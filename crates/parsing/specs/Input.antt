@@ -1,10 +1,22 @@
 -- A line of input: decimal numbers of one to nine digits with single blanks between them, a line feed and nothing after it.
 use mathlib.Core.Path.{_≡_}
 use mathlib.Core.List.{List, [], _∷_, _++_}
-use Prim.Native.Nat.{ℕ, zero, suc, _≤_}
+use Prim.Native.Nat.{ℕ, zero, suc, _+_, _-_, _*_, _≤_, _<_}
 use lib.ListN.{length}
 use Rattle.base.specs.Lists.{All}
-use Rattle.lines.specs.Decimal.{Digit, valueOf}
+
+-- a byte that is a decimal digit
+abbrev pub Digit : ℕ → Type 0
+Digit c = (48 ≤ c) × (c < 58)
+
+-- the number that v becomes as these digits are written behind it
+unfoldable pub valueFrom : ℕ → List ℕ → ℕ
+valueFrom v [] = v
+valueFrom v (c ∷ cs) = valueFrom (v * 10 + (c - 48)) cs
+
+-- the number that a text of digits gives
+abbrev pub valueOf : List ℕ → ℕ
+valueOf ds = valueFrom 0 ds
 
 -- one to nine decimal digits that give v
 pub record Digits (v : ℕ) (ds : List ℕ) : Type 0 where

@@ -12,11 +12,11 @@ use lib.ListN.{length, drop, set, length-set, drop-of-length-le}
 use lib.Seq.{sets, drop-cons}
 use borrow.Author.Tests.{le-leb, lt-leb}
 use Rattle.base.proofs.Cases.{by-order}
-use Rattle.lines.specs.Input.{closing}
-use Rattle.lines.specs.Parsing.{numeral, missing, read, numbersIn, wholeLine}
-use Rattle.lines.proofs.InputLaws.{found-number, found-missing, numbers-found, numbers-missing, line-found, line-missing}
-use Rattle.lines.proofs.parse.Statement.{statement}
-use Rattle.lines.proofs.parse.Tie as tie
+use Rattle.parsing.specs.Input.{closing}
+use Rattle.parsing.specs.Parsing.{numeral, missing, read, numbersIn, wholeLine}
+use Rattle.parsing.proofs.InputLaws.{found-number, found-missing, numbers-found, numbers-missing, line-found, line-missing}
+use Rattle.parsing.proofs.parse.Statement.{statement}
+use Rattle.parsing.proofs.parse.Tie as tie
 
 record Read (input out₀ out : List ℕ) (at i : ℕ) : Type 0 where
   size : length out ≡ length out₀

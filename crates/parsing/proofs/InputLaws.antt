@@ -10,11 +10,10 @@ use lib.ListN.{length, drop}
 use borrow.Author.Tests.{lt-ltb, le-ltb, le-leb, lt-leb, eq-eqb, ne-eqb, eqb-true}
 use Rattle.base.specs.Lists.{All, none, each}
 use Rattle.base.proofs.Cases.{by-test, by-order}
-use Rattle.lines.specs.declared.Numeral.{Numeral}
-use Rattle.lines.specs.declared.Numeral.the-variants.{Number, Missing}
-use Rattle.lines.specs.Decimal.{Digit, valueFrom, valueOf}
-use Rattle.lines.specs.Input.{Digits, closing, IsLine, no-more, one-more}
-use Rattle.lines.specs.Parsing.{isDigit, Reading, numeral, missing, readFrom, read, numbersIn, wholeLine, readingOf}
+use Rattle.parsing.specs.declared.Numeral.{Numeral}
+use Rattle.parsing.specs.declared.Numeral.the-variants.{Number, Missing}
+use Rattle.parsing.specs.Input.{Digit, valueFrom, valueOf, Digits, closing, IsLine, no-more, one-more}
+use Rattle.parsing.specs.Parsing.{isDigit, Reading, numeral, missing, readFrom, read, numbersIn, wholeLine, readingOf}
 
 digit-true : (c : ℕ) → Digit c → isDigit c ≡ true
 digit-true c h = simp (le-leb 48 c (h .0), lt-ltb c 58 (h .1))

@@ -3,9 +3,9 @@ use borrow.Author.Needs.{needs}
 use mathlib.Core.Path.{_≡_, refl}
 use Prim.Native.Nat.{ℕ, zero, suc, _<_}
 use native.Mathlib.Omega.{arith}
-use Rattle.lines.specs.Input.{closing}
-use Rattle.lines.proofs.closing_byte.Statement.{statement}
-use Rattle.lines.proofs.closing_byte.Tie as tie
+use Rattle.parsing.specs.Input.{closing}
+use Rattle.parsing.proofs.closing_byte.Statement.{statement}
+use Rattle.parsing.proofs.closing_byte.Tie as tie
 
 closing-more : (more : ℕ) → 0 < more → 32 ≡ closing more
 closing-more zero h = absurd (omega arith)

@@ -5,11 +5,11 @@ use native.Mathlib.Omega.{arith}
 use mathlib.Core.Path.{_≡_, sym, _∙_}
 use Prim.Native.Nat.{_-_, _^_, _<_, _≤_}
 use lib.ListN.{length, drop}
-use Rattle.lines.specs.Parsing.{readFrom, read}
-use Rattle.lines.proofs.InputLaws.{digit-low, digit-high}
-use Rattle.lines.proofs.ReadLaws.{read-past, readFrom-past, read-other-at, read-digit-at, readFrom-close-at, readFrom-full-at, readFrom-other-at, readFrom-digit-at, value-more, value-small}
-use Rattle.lines.proofs.number_at.Statement.{statement}
-use Rattle.lines.proofs.number_at.Tie as tie
+use Rattle.parsing.specs.Parsing.{readFrom, read}
+use Rattle.parsing.proofs.InputLaws.{digit-low, digit-high}
+use Rattle.parsing.proofs.ReadLaws.{read-past, readFrom-past, read-other-at, read-digit-at, readFrom-close-at, readFrom-full-at, readFrom-other-at, readFrom-digit-at, value-more, value-small}
+use Rattle.parsing.proofs.number_at.Statement.{statement}
+use Rattle.parsing.proofs.number_at.Tie as tie
 
 abbrev Inv-loop : tie.InvT-loop
 Inv-loop input from close first value₀ at₀ room₀ value at room =
