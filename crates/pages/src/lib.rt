@@ -52,7 +52,7 @@ fn judge_page(
     if tables::unfit_tables(g, steps.len(), firsts.len()) {
         return Judgement::Refused(Refusal::TableLength);
     }
-    if !tables::verify(g, steps, firsts) {
+    if !verifying::verify(g, steps, firsts) {
         return Judgement::Refused(Refusal::TableEntry);
     }
     if patterns::unfit_mark(mark, bits, limit) {

@@ -72,7 +72,7 @@ fn judge_repair(
     if tables::unfit_tables(g, steps.len(), firsts.len()) {
         return Judgement::Refused(Refusal::TableLength);
     }
-    if !tables::verify(g, steps, firsts) {
+    if !verifying::verify(g, steps, firsts) {
         return Judgement::Refused(Refusal::TableEntry);
     }
     if output.len() != packet.len() {

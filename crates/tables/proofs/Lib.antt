@@ -4,6 +4,4 @@ pub mod PowerLaws
 pub mod PeriodLaws
 pub mod FirstLaws
 pub mod TableLaws
-pub mod RuleLaws
-pub mod GatherLaws
 pub mod WalkLaws

@@ -1,3 +1,3 @@
 pub mod Tables
 pub mod Calls
-pub mod Rule
+pub mod Lent

@@ -62,7 +62,7 @@ fn verdict(generator: u64, steps: &[u16], firsts: &[u16]) -> u64
             if tables::unfit_tables(g, steps.len(), firsts.len()) {
                 return 0;
             }
-            if tables::verify(g, steps, firsts) {
+            if verifying::verify(g, steps, firsts) {
                 return 1;
             }
             0

@@ -5,7 +5,7 @@ use Prim.Native.Nat.{ℕ, _^_}
 use borrow.Author.Needs.{needs}
 use lib.ListN.{length, replicate, length-replicate}
 use Rattle.poly.specs.declared.Generator.{Generator}
-use Rattle.tables.specs.Rule.{Lent}
+use Rattle.tables.specs.Lent.{Lent}
 use Rattle.tables.proofs.build.Statement.{statement}
 use Rattle.tables.proofs.build.Tie as tie
 

@@ -2,10 +2,10 @@
 use mathlib.Core.Path.{ap₂, _∙_}
 use mathlib.Core.Bool.{Bool, _&&_}
 use borrow.Author.Needs.{needs}
 use Rattle.tables.specs.Tables.{rightTables}
-use Rattle.tables.proofs.GatherLaws.{or-eqb-zero}
-use Rattle.tables.proofs.verify.Statement.{statement}
-use Rattle.tables.proofs.verify.Tie as tie
+use Rattle.verifying.proofs.GatherLaws.{or-eqb-zero}
+use Rattle.verifying.proofs.verify.Statement.{statement}
+use Rattle.verifying.proofs.verify.Tie as tie
 
 returns : tie.Need-returns
 unfolding rightTables

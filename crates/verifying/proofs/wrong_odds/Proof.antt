@@ -5,12 +5,12 @@ use native.Mathlib.Omega.{arith}
 use borrow.Author.Needs.{needs}
 use lib.Bits.{bitXor}
 use lib.ListN.{length, getD}
-use Rattle.tables.specs.Rule.{later}
 use Rattle.poly.proofs.GeneratorLaws.{fit-small}
-use Rattle.tables.proofs.RuleLaws.{odd-step-lt}
-use Rattle.tables.proofs.GatherLaws.{Gathered, gathered-more, gathered-all, mismatch}
-use Rattle.tables.proofs.wrong_odds.Statement.{statement}
-use Rattle.tables.proofs.wrong_odds.Tie as tie
+use Rattle.verifying.specs.Rule.{later}
+use Rattle.verifying.proofs.RuleLaws.{odd-step-lt}
+use Rattle.verifying.proofs.GatherLaws.{Gathered, gathered-more, gathered-all, mismatch}
+use Rattle.verifying.proofs.wrong_odds.Statement.{statement}
+use Rattle.verifying.proofs.wrong_odds.Tie as tie
 
 abbrev Inv-loop : tie.InvT-loop
 Inv-loop firsts half wrong₀ k₀ wrong k =

@@ -5,10 +5,10 @@ use native.Mathlib.Omega.{arith}
 use borrow.Author.Needs.{needs}
 use lib.Bits.{bitXor}
 use lib.ListN.{length, getD}
-use Rattle.tables.specs.Rule.{later}
-use Rattle.tables.proofs.GatherLaws.{Gathered, gathered-none, gathered-more, gathered-all, mismatch}
-use Rattle.tables.proofs.wrong_evens.Statement.{statement}
-use Rattle.tables.proofs.wrong_evens.Tie as tie
+use Rattle.verifying.specs.Rule.{later}
+use Rattle.verifying.proofs.GatherLaws.{Gathered, gathered-none, gathered-more, gathered-all, mismatch}
+use Rattle.verifying.proofs.wrong_evens.Statement.{statement}
+use Rattle.verifying.proofs.wrong_evens.Tie as tie
 
 abbrev Inv-loop : tie.InvT-loop
 Inv-loop firsts wrong₀ k₀ wrong k =

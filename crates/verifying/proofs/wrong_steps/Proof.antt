@@ -5,13 +5,13 @@ use Prim.Native.Nat.{_+_, _-_, _*_, _/_, _≤_}
 use native.Mathlib.Omega.{arith}
 use lib.Bits.{bitXor}
 use lib.ListN.{length, getD}
 use Rattle.tables.specs.Tables.{stepTable}
 use Rattle.poly.proofs.GeneratorLaws.{fit-small}
 use Rattle.tables.proofs.TableLaws.{zero-same}
-use Rattle.tables.proofs.RuleLaws.{step-rule}
-use Rattle.tables.proofs.GatherLaws.{Gathered, gathered-none, gathered-more, gathered-all, mismatch, or-zero}
-use Rattle.tables.proofs.wrong_steps.Statement.{statement}
-use Rattle.tables.proofs.wrong_steps.Tie as tie
+use Rattle.verifying.proofs.RuleLaws.{step-rule}
+use Rattle.verifying.proofs.GatherLaws.{Gathered, gathered-none, gathered-more, gathered-all, mismatch, or-zero}
+use Rattle.verifying.proofs.wrong_steps.Statement.{statement}
+use Rattle.verifying.proofs.wrong_steps.Tie as tie
 
 abbrev Inv-loop : tie.InvT-loop
 Inv-loop steps half wrong₀ k₀ wrong k =

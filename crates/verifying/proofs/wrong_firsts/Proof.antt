@@ -3,13 +3,13 @@ use native.Mathlib.Omega.{arith}
 use borrow.Author.Needs.{needs}
 use lib.Bits.{bitOr}
 use lib.ListN.{getD}
 use Rattle.tables.specs.Tables.{firstTable}
 use Rattle.poly.proofs.GeneratorLaws.{fit-small}
 use Rattle.tables.proofs.TableLaws.{zero-same}
-use Rattle.tables.proofs.RuleLaws.{first-rules}
-use Rattle.tables.proofs.GatherLaws.{or-zero}
-use Rattle.tables.proofs.wrong_firsts.Statement.{statement}
-use Rattle.tables.proofs.wrong_firsts.Tie as tie
+use Rattle.verifying.proofs.RuleLaws.{first-rules}
+use Rattle.verifying.proofs.GatherLaws.{or-zero}
+use Rattle.verifying.proofs.wrong_firsts.Statement.{statement}
+use Rattle.verifying.proofs.wrong_firsts.Tie as tie
 
 shared-slice-read-result : tie.Need-shared-slice-read-result
 shared-slice-read-result c =

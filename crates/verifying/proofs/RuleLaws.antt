@@ -14,13 +14,13 @@ use Rattle.base.proofs.Cases.{by-order, by-equal, by-parity}
 use Rattle.poly.specs.Polynomial.{reduce}
 use Rattle.poly.specs.Fit.{Divisor}
 use Rattle.poly.proofs.BackLaws.{rem-twice}
 use Rattle.tables.specs.Tables.{entryBits, power, step, first, period, stepTable, firstTable}
-use Rattle.tables.specs.Rule.{later, EvenRuled, OddRuled}
 use Rattle.tables.proofs.StepLaws.{step-is, step-halves, step-inverts}
 use Rattle.tables.proofs.PowerLaws.{power-lt, power-suc, power-zero, power-nonzero, step-power}
 use Rattle.tables.proofs.PeriodLaws.{period-positive, period-least, power-period}
 use Rattle.tables.proofs.FirstLaws.{first-hit, first-early, first-below, first-none, first-zero, first-present, period-narrow}
 use Rattle.tables.proofs.TableLaws.{getD-stepTable, stepTable-by-entries, getD-firstTable, firstTable-by-powers}
+use Rattle.verifying.specs.Rule.{later, EvenRuled, OddRuled}
 
 -- entry s is one position after the entry at its step, save where s is 0 or 1
 pub record Ruled (n g : ℕ) (l : List ℕ) : Type 0 where

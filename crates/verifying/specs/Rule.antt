@@ -1,17 +1,10 @@
--- What the inner functions ask, and a rule between the entries of a table of first positions, which the verification
--- tests: RuleLaws has that exactly the right table obeys it.
-use Prim.Native.Nat.{ℕ, _+_, _-_, _*_, _/_, _^_, _<_, _≤_}
+-- A rule between the entries of a table of first positions, which the verification tests: RuleLaws has that exactly the right
+-- table obeys it.
+use Prim.Native.Nat.{ℕ, _+_, _-_, _*_, _/_, _<_, _≤_}
 use mathlib.Core.Path.{_≡_}
 use mathlib.Core.List.{List}
 use lib.Bits.{bitXor}
 use lib.ListN.{length, getD}
-use Rattle.poly.specs.Fit.{Fit}
-use Rattle.poly.specs.declared.Generator.{Generator}
-
--- an accepted generator, and a slice with room for one of its tables
-pub record Lent (g : Generator) (l : List ℕ) : Type 0 where
-  pub fit : Fit g
-  pub full : length l ≡ 2 ^ g .degree
 
 -- one position later, and absent if absent
 abbrev pub later : ℕ → ℕ
