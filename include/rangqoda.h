@@ -12,9 +12,9 @@
  * calls or shared: calls on different memory may run at the same time. A page
  * and a repair take less than 18 KiB of stack, the other calls less than 1 KiB.
  *
- * "rt staticlib rangqoda" makes the archive, target/staticlib/librangqoda.a. It
- * proves everything anew each time, also where nothing changed: make it once,
- * and keep a copy beside this header to link with.
+ * "rt staticlib rangqoda" makes the archive, target/staticlib/librangqoda.a,
+ * and proves it first. The test command clears target/, and the archive goes
+ * with it: keep a copy beside this header to link with.
  *
  *
  * Terms

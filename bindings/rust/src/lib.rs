@@ -118,8 +118,8 @@
 //!
 //! # The archive
 //!
-//! `rt staticlib rangqoda` makes the archive that this crate links, in `target/staticlib`. It proves everything anew each time,
-//! also where nothing changed. So make it once, keep a copy in a folder of its own, and name that folder by the variable
+//! `rt staticlib rangqoda` makes the archive that this crate links, in `target/staticlib`, and proves it first. The test command
+//! clears `target/`, and the archive goes with it. So keep a copy in a folder of its own, and name that folder by the variable
 //! `RANGQODA_LIB_DIR` when this crate is built.
 //!
 //! # Example
