@@ -1,12 +1,17 @@
 -- Members of a list, what holds of every member, and ascending numbers.
-use mathlib.Core.List.{List, []}
+use mathlib.Core.Path.{_≡_, refl}
+use mathlib.Core.List.{List, [], _∷_}
 use Prim.Native.Nat.{ℕ, zero, suc, _+_, _<_, _≤_}
 use native.Mathlib.Omega.{arith}
 use lib.ListN.{length, getD}
-use Rattle.base.specs.Lists.{In, All, none, each, Ascending, ends, next}
+use Rattle.base.specs.Lists.{In, here, All, none, each, Ascending, ends, next}
 
 pub in-nothing : {A : Type 0} {a : A} → In a [] → ⊥
 in-nothing h = elim h [ ]
+
+pub no-member : {A : Type 0} (xs : List A) → ((a : A) → In a xs → ⊥) → xs ≡ []
+no-member [] h = refl
+no-member (x ∷ xs) h = absurd (h x (here refl))
 
 pub all-at : {l : ℕ} {ps : List ℕ} → All (λ (p : ℕ). p < l) ps → (i : ℕ) → i < length ps → getD ps i 0 < l
 all-at none i h = absurd (omega arith)

@@ -3,6 +3,7 @@ pub mod CompareLaws
 pub mod MemberLaws
 pub mod SiftLaws
 pub mod SortedLaws
+pub mod ForemostLaws
 pub mod FollowLaws
 pub mod ListingLaws
 pub mod CountLaws

@@ -45,6 +45,11 @@ module _ {A : Type 0} {R : A → A → Bool} where
       first {x = f x} (λ y i. let r = map-in f xs i in rw (r .2) (c x (r .0) (here refl) (there (r .1)) (h (r .0) (r .1))))
       (sorted-map f (λ a b i j. c a b (there i) (there j)) s)
 
+  -- by another order that agrees on the members
+  pub sorted-by : {S : A → A → Bool} {xs : List A} → ((a b : A) → In a xs → In b xs → R a b ≡ true → S a b ≡ true) → Sorted R xs → Sorted S xs
+  sorted-by c empty = empty
+  sorted-by c (first {x = x} h s) = first (λ y i. c x y (here refl) (there i) (h y i)) (sorted-by (λ a b i j. c a b (there i) (there j)) s)
+
   pub sorted-sift : (P : A → Bool) {xs : List A} → Sorted R xs → Sorted R (sift P xs)
   unfolding sift
   sorted-sift P empty = empty

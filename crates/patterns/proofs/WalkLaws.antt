@@ -14,10 +14,10 @@ use Rattle.patterns.specs.Order.{lower, before}
 use Rattle.patterns.specs.StrictOrder.{Sorted, empty, first, StrictTotal}
 use Rattle.patterns.specs.Listing.{syndrome, choose, upTo, sift, inOrder, listing}
 use Rattle.patterns.specs.Walk.{byPositions, walk}
-use Rattle.patterns.proofs.OrderLaws.{keyed-less, keyed-same, keyed-cases, keyed-total, lower-less, lower-same, lower-total, before-strict-total}
+use Rattle.patterns.proofs.OrderLaws.{keyed-less, keyed-same, keyed-total, lower-less, lower-same, lower-total, before-strict-total}
 use Rattle.patterns.proofs.MemberLaws.{map-in}
 use Rattle.patterns.proofs.SiftLaws.{in-sift, sift-in}
-use Rattle.patterns.proofs.SortedLaws.{sorted-append, sorted-map, sorted-sift, in-inOrder, inOrder-in, inOrder-only}
+use Rattle.patterns.proofs.SortedLaws.{sorted-append, sorted-map, sorted-by, sorted-sift, in-inOrder, inOrder-in, inOrder-only}
 use Rattle.patterns.proofs.ListingLaws.{choose-in, upTo-in, listing-sorted}
 
 -- ---- the order of a walk ----
@@ -34,37 +34,38 @@ pub level-lower : (p q : List ℕ) → length p ≡ length q → byPositions p q
 unfolding byPositions
 level-lower p q h = keyed-same length lower p q h
 
-same-head : (a : ℕ) (p q : List ℕ) → byPositions p q ≡ true → byPositions (a ∷ p) (a ∷ q) ≡ true
-unfolding byPositions
-same-head a p q t =
-    keyed-cases length lower p q t (λ h. keyed-less length lower (a ∷ p) (a ∷ q) (omega arith))
-    (λ e h. keyed-same length lower (a ∷ p) (a ∷ q) (ap suc e) ∙ lower-same a p q ∙ h)
-
--- a set whose positions are all past `from` comes after one of the same count that has `from`
-head-first : (from l k : ℕ) (ps qs : List ℕ) → length ps ≡ k → Ascending l (suc from) qs → length qs ≡ suc k → byPositions (from ∷ ps) qs ≡ true
-head-first from l k ps qs e ends d = absurd (omega arith)
-head-first from l k ps qs e (next {p = q} {ps = rs} h _ a) d = level-lower (from ∷ ps) (q ∷ rs) (omega arith) ∙ lower-less from q ps rs h
-
 -- ---- all sets, and those that pass a test ----
 
-choose-sorted : (room k from : ℕ) → Sorted byPositions (choose room k from)
+-- a set whose positions are all past `from` comes after one that has `from`
+head-first : (from l k : ℕ) (ps qs : List ℕ) → Ascending l (suc from) qs → length qs ≡ suc k → lower (from ∷ ps) qs ≡ true
+head-first from l k ps qs ends d = absurd (omega arith)
+head-first from l k ps qs (next {p = q} {ps = rs} h _ a) d = lower-less from q ps rs h
+
+pub choose-sorted : (room k from : ℕ) → Sorted lower (choose room k from)
 unfolding choose
 choose-sorted room zero from = first (λ y i. absurd (in-nothing i)) empty
 choose-sorted zero (suc k) from = empty
 choose-sorted (suc room) (suc k) from =
-    sorted-append (sorted-map (λ (ps : List ℕ). from ∷ ps) (λ a b i j h. same-head from a b h) (choose-sorted room k (suc from)))
+    sorted-append (sorted-map (λ (ps : List ℕ). from ∷ ps) (λ a b i j h. lower-same from a b ∙ h) (choose-sorted room k (suc from)))
     (choose-sorted room (suc k) (suc from))
     (λ x y i j.
     let r = map-in (λ (ps : List ℕ). from ∷ ps) (choose room k (suc from)) i in
-    let a = choose-in room k (suc from) (suc from + room) refl (r .0) (r .1) in
     let b = choose-in room (suc k) (suc from) (suc from + room) refl y j in
-    rw (r .2) (head-first from (suc from + room) k (r .0) y (a .1) (b .0) (b .1)))
+    rw (r .2) (head-first from (suc from + room) k (r .0) y (b .0) (b .1)))
+
+-- they are of one count
+choose-met : (room k from : ℕ) → Sorted byPositions (choose room k from)
+choose-met room k from =
+    sorted-by (λ a b i j t. level-lower a b (count a i ∙ sym (count b j)) ∙ t) (choose-sorted room k from)
+  where
+    count : (ps : List ℕ) → In ps (choose room k from) → length ps ≡ k
+    count ps i = choose-in room k from (from + room) refl ps i .1
 
 upTo-sorted : (l limit : ℕ) → Sorted byPositions (upTo l limit)
 unfolding upTo
-upTo-sorted l zero = choose-sorted l 0 0
+upTo-sorted l zero = choose-met l 0 0
 upTo-sorted l (suc limit) =
-    sorted-append (upTo-sorted l limit) (choose-sorted l (suc limit) 0)
+    sorted-append (upTo-sorted l limit) (choose-met l (suc limit) 0)
     (λ x y i j.
     let a = upTo-in l limit i in
     let b = choose-in l (suc limit) 0 l (omega arith) y j in

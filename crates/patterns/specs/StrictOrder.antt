@@ -1,4 +1,4 @@
--- What a strict total order is, for an order given as a test, and when a list ascends in it.
+-- What a strict total order is, for an order given as a test, when a list ascends in it, and what stands first by it.
 use mathlib.Core.Path.{_≡_}
 use mathlib.Core.Bool.{Bool, true, false}
 use mathlib.Core.List.{List, [], _∷_}
@@ -19,3 +19,8 @@ pub record StrictTotal {A : Type 0} (R : A → A → Bool) : Type 0 where
 pub data Sorted {A : Type 0} (R : A → A → Bool) : List A → Type 0 where
   empty : Sorted R []
   first : {x : A} {xs : List A} → ((y : A) → In y xs → R x y ≡ true) → Sorted R xs → Sorted R (x ∷ xs)
+
+-- what stands first of all that meet P: it does, and every other that does comes after it
+pub record Foremost {A : Type 0} (R : A → A → Bool) (P : A → Type 0) (a : A) : Type 0 where
+  pub meets : P a
+  pub othersAfter : (b : A) → P b → (b ≡ a → ⊥) → R a b ≡ true

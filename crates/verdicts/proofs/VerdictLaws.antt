@@ -13,7 +13,7 @@ use lib.Dec.{eqb}
 use lib.ListN.{length}
 use Rattle.base.specs.Lists.{In, here, there, All, Ascending}
 use Rattle.base.proofs.Cases.{by-test}
-use Rattle.base.proofs.ListLaws.{in-nothing, ascending-all}
+use Rattle.base.proofs.ListLaws.{in-nothing, no-member, ascending-all}
 use Rattle.poly.specs.Fit.{Fit}
 use Rattle.packet.specs.Packet.{Bytes, bits, remainder, flips}
 use Rattle.packet.specs.declared.Crc.{Crc}
@@ -25,15 +25,12 @@ use Rattle.patterns.specs.StrictOrder.{Sorted}
 use Rattle.patterns.specs.Listing.{syndrome}
 use Rattle.patterns.proofs.OrderLaws.{before-strict-total}
 use Rattle.patterns.proofs.SiftLaws.{sift-in, in-sift, sift-same}
-use Rattle.patterns.proofs.SortedLaws.{sorted-head, sorted-sift, never-both}
+use Rattle.patterns.proofs.SortedLaws.{sorted-head, sorted-sift}
+use Rattle.patterns.proofs.ForemostLaws.{foremost-same, first-foremost, foremost-first}
 use Rattle.patterns.proofs.ListingLaws.{listed-iff, listing-sorted}
 use Rattle.verdicts.specs.Verdicts.{passesBoth, packetList, candidates, Said, intact, repaired, several, nothing, settled, verdict, mended, outputFor, Leads, leading, Earliest}
 
 -- ---- one, none or several members of an ascending list ----
-
-no-member : (xs : List (List ℕ)) → ((p : List ℕ) → In p xs → ⊥) → xs ≡ []
-no-member [] h = refl
-no-member (x ∷ xs) h = absurd (h x (here refl))
 
 only-member : {p q : List ℕ} → In q (p ∷ []) → q ≡ p
 only-member (here d) = d
@@ -63,22 +60,7 @@ members-two (x ∷ y ∷ ys) i j other = omega arith
 -- ---- the earliest ----
 
 pub earliest-same : {P Q : List ℕ → Type 0} → ((ps : List ℕ) → P ps ↔ Q ps) → (ps : List ℕ) → Earliest P ps ↔ Earliest Q ps
-earliest-same same ps = (
-  λ e. record { meets = same ps .0 (e .meets); othersAfter = λ qs h. e .othersAfter qs (same qs .1 h) },
-  λ e. record { meets = same ps .1 (e .meets); othersAfter = λ qs h. e .othersAfter qs (same qs .0 h) },
-)
-
--- of an ascending list it is the first member, and no other
-first-earliest : {x : List ℕ} {xs : List (List ℕ)} → Sorted before (x ∷ xs) → Earliest (λ ps. In ps (x ∷ xs)) x
-first-earliest sorted =
-    record { meets = here refl; othersAfter = λ qs i other. elim i [ here d ↦ absurd (other d) | there j ↦ sorted-head sorted qs j ] }
-
-earliest-first : {x p : List ℕ} {xs : List (List ℕ)} → Sorted before (x ∷ xs) → Earliest (λ ps. In ps (x ∷ xs)) p → x ≡ p
-earliest-first {x} {p} sorted e =
-    elim (e .meets) [
-      | here d ↦ sym d
-      | there i ↦ let h = sorted-head sorted p i in absurd (never-both before-strict-total x p h (e .othersAfter x (here refl) (before-differs h)))
-    ]
+earliest-same same ps = (λ e. foremost-same same e, λ e. foremost-same (λ qs. (same qs .1, same qs .0)) e)
 
 -- ---- the verdict by the candidates ----
 
@@ -106,8 +88,8 @@ several-more : (xs : List (List ℕ)) → Sorted before xs → (n : ℕ) (q : Li
 several-more [] sorted n q = (λ h. zero-not-one cc, λ h. absurd (omega (arith, h .0)))
 several-more (x ∷ []) sorted n q = (λ h. zero-not-one cc, λ h. absurd (omega (arith, h .0)))
 several-more (x ∷ y ∷ ys) sorted n q = (
-  λ h. let e : x ≡ q = cc in (omega arith, cc, subst (Earliest (λ ps. In ps (x ∷ y ∷ ys))) e (first-earliest sorted)),
-  λ h. let d = h .1 in let e = earliest-first sorted (h .2) in cc,
+  λ h. let e : x ≡ q = cc in (omega arith, cc, subst (Earliest (λ ps. In ps (x ∷ y ∷ ys))) e (first-foremost sorted)),
+  λ h. let d = h .1 in let e = foremost-first before-strict-total sorted (h .2) in cc,
 )
 
 -- who passes both checks passes each

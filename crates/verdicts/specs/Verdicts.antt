@@ -13,6 +13,7 @@ use Rattle.checksum.specs.Checksum.{passes}
 use Rattle.checksum.specs.declared.Check.{Check}
 use Rattle.patterns.specs.Patterns.{positions}
 use Rattle.patterns.specs.Order.{before}
+use Rattle.patterns.specs.StrictOrder.{Foremost}
 use Rattle.patterns.specs.Listing.{listing, sift}
 use Rattle.verdicts.specs.declared.Verdict.{Verdict}
 use Rattle.verdicts.specs.declared.Verdict.the-variants.{Intact, Repaired, Several, None}
@@ -74,6 +75,5 @@ abbrev pub leading : Crc → Check → ℕ → List ℕ → List (List ℕ)
 leading c k limit s = sift (λ ps. passesBoth c k (flips s ps)) (packetList c limit s)
 
 -- the set that stands first of those that meet P: it does, and every other that does comes after it in the order
-pub record Earliest (P : List ℕ → Type 0) (ps : List ℕ) : Type 0 where
-  pub meets : P ps
-  pub othersAfter : (qs : List ℕ) → P qs → (qs ≡ ps → ⊥) → before ps qs ≡ true
+abbrev pub Earliest : (List ℕ → Type 0) → List ℕ → Type 0
+Earliest P ps = Foremost before P ps
