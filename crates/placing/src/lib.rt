@@ -7,25 +7,40 @@ ghost use lib.ListN.{length};
 ghost use Rattle.base.specs.Lists.{Ascending};
 ghost use Rattle.placing.specs.Placing.{answer, firstAfter, Lookup, Nearest, Placed, Ready};
 
-// The least position at or past `lo` whose power is `u`, by the first one and the period. What it returns is at or
-// past the end of `pow` where there is none below it. The first test asks whether the first position is at or past
-// `lo` and below the length, both at once: nearly every trial fails it, and a second test would be a gamble.
-fn nearest(pow: &[u32], first: &[u16], period: usize, lo: usize, u: usize) -> usize
-    requires { ⌜ Ready (now pow) (now first) period lo u ⌝ }
-    ensures { λ r. ⌜ ((power : ℕ → ℕ) → Lookup power (now (pow .entry)) (now (first .entry)) period → Nearest power (length (now (pow .entry))) lo u r) ⌝ }
+// The least position at or past `lo` and below `end` whose power is `u`, by the first one and the period. What it returns is at or
+// past `end` where there is none. The first test asks whether the first position is at or past `lo` and below `end`, both at once:
+// nearly every trial fails it, and a second test would be a gamble. The next asks for all of `pow`, so that in a loop it is the same
+// at each turn.
+pub fn nearest_below(
+    pow: &[u32],
+    first: &[u16],
+    period: usize,
+    lo: usize,
+    end: usize,
+    u: usize,
+) -> usize
+    requires { ⌜ Ready (now pow) (now first) period lo u × (lo ≤ end) × (end ≤ length (now pow)) ⌝ }
+    ensures { λ r. ⌜ ((power : ℕ → ℕ) → Lookup power (now (pow .entry)) (now (first .entry)) period → Nearest power end lo u r) ⌝ }
 {
-    let l = pow.len();
     let f = first[u] as usize;
-    if (f + 65536 - lo) % 65536 < l - lo {
+    if (f + 65536 - lo) % 65536 < end - lo {
         return f;
     }
-    if l <= period {
-        return l;
+    if pow.len() <= period {
+        return end;
     }
     if lo <= f {
         return f;
     }
     f + (lo - f + period - 1) / period * period
+}
+
+// The same below the end of `pow`.
+pub fn nearest(pow: &[u32], first: &[u16], period: usize, lo: usize, u: usize) -> usize
+    requires { ⌜ Ready (now pow) (now first) period lo u ⌝ }
+    ensures { λ r. ⌜ ((power : ℕ → ℕ) → Lookup power (now (pow .entry)) (now (first .entry)) period → Nearest power (length (now (pow .entry))) lo u r) ⌝ }
+{
+    nearest_below(pow, first, period, lo, pow.len(), u)
 }
 
 // Places one position.
