@@ -67,16 +67,16 @@ class Group:
                 return 7
         return 8 if room < RECORD_BYTES else 0
 
-    def add(self, bits, limit, syndrome, span=1, mark=START, room=64, sizes=1, calls=LONG, generator=None):
+    def add(self, bits, limit, syndrome, syndromes=1, mark=START, room=64, sizes=1, calls=LONG, generator=None):
         """A case: the line that the program reads, and the one it prints."""
         generator = self.generator if generator is None else generator
         kind = KINDS.get(mark, len(mark))
         positions = [0] * MOST_POSITIONS if isinstance(mark, str) else [*mark, *[0] * (MOST_POSITIONS - len(mark))]
         given = [x for y in (generator, bits, limit, syndrome) for x in divmod(y, 2**32)]
-        line = " ".join(map(str, [*given, span, kind, *positions, room, sizes, calls]))
+        line = " ".join(map(str, [*given, syndromes, kind, *positions, room, sizes, calls]))
         used = beyond = 2166136261
         records = made = refusals = ended = 0
-        for s in range(syndrome, syndrome + span):
+        for s in range(syndrome, syndrome + syndromes):
             reached = mark
             for i in range(calls):
                 size = room + i % sizes
@@ -111,11 +111,13 @@ def worked_by_hand():
     assert listed(FIVE, 15, 2, 1) == [(0,)] and listed(FIVE, 16, 2, 1) == [(0,), (15,)]
     assert listed(FIVE, 7, 2, 3) == [(0, 1)] and listed(FIVE, 8, 2, 3) == [(0, 1), (3, 7)]
     assert listed(FIVE, 15, 2, 0) == [()] and listed(FIVE, 16, 2, 0) == [(), (0, 15)]
-    assert listed(FIVE, 9, 2, 30) == [(0, 6), (3, 8), (5, 7)]
-    assert listed_after(FIVE, 9, 2, 30, (1, 2)) == [(3, 8), (5, 7)]
+    assert listed(FIVE, 9, 2, 30) == [(5, 7), (3, 8), (0, 6)]
+    assert listed_after(FIVE, 9, 2, 30, (1, 2)) == [(5, 7), (3, 8), (0, 6)]
+    assert listed(13, 6, 3, 4) == [(2,), (4, 5), (0, 3), (0, 1, 4), (1, 3, 5)]
     received = divide(0x7FFF05, FIVE)
     assert listed(FIVE, 24, 1, received) == [(8,), (23,)]
     Group(11).add(5, 1, 6)
+    Group(13).add(6, 3, 4)
     five = Group(FIVE)
     for bits, syndrome in ((15, 1), (16, 1), (7, 3), (8, 3), (15, 0), (16, 0), (9, 30)):
         five.add(bits, 2, syndrome)
@@ -128,12 +130,12 @@ def every_small_list():
     five = Group(FIVE)
     for bits in range(6, 21):
         for limit in range(1, MOST_POSITIONS + 1):
-            five.add(bits, limit, 0, span=32)
+            five.add(bits, limit, 0, syndromes=32)
     for generator in (9, 11, 13, 15, 19, 23, 31, 37, 47, 51, 67, 73, 99, 131, 137, 189, 285, 263, 257, 297):
         degree = degree_of(generator)
         group = Group(generator)
         for bits, limit in ((degree + 1, 4), (degree + 2, 3), (13, 4), (16, 4), (19, 3), (27, 2), (33, 1)):
-            group.add(bits, limit, 0, span=2**degree)
+            group.add(bits, limit, 0, syndromes=2**degree)
 
 
 def joined_pages():
@@ -142,10 +144,10 @@ def joined_pages():
     least = RECORD_BYTES
     near = (*range(least, least + 6), 2 * least - 1, 2 * least, 2 * least + 1, 3 * least - 1, 3 * least, 5 * least)
     for room in (*near, 64, 100, 255, 4096):
-        five.add(17, 4, 0, span=32, room=room)
+        five.add(17, 4, 0, syndromes=32, room=room)
         five.add(20, 4, 30, room=room)
     for room, sizes in ((least - 1, 2), (least - 2, 4), (0, least + 3), (least, 7), (5, 31)):
-        five.add(18, 4, 7, span=3, room=room, sizes=sizes)
+        five.add(18, 4, 7, syndromes=3, room=room, sizes=sizes)
         five.add(18, 3, 0, room=room, sizes=sizes)
     for calls in range(0, 30):
         five.add(14, 3, 0, room=least, calls=calls)
@@ -161,7 +163,7 @@ def every_mark():
             for mark in combinations(range(bits), count):
                 five.add(bits, limit, syndrome, mark=mark, room=room, calls=1)
     for mark in ((15, 16, 17, 19), (16, 17, 18, 19), (19,), (18, 19), ()):
-        five.add(20, 4, 0, span=32, mark=mark)
+        five.add(20, 4, 0, syndromes=32, mark=mark)
     for mark in (START, ENDED, (), (0,), (7,), (15,), (14, 15)):
         five.add(16, 2, 1, mark=mark, room=RECORD_BYTES)
 
@@ -173,16 +175,28 @@ def every_mark_for_every_syndrome():
         group = Group(generator)
         for count in range(MOST_POSITIONS + 1):
             for mark in combinations(range(bits), count):
-                group.add(bits, MOST_POSITIONS, 0, span=2 ** degree_of(generator), mark=mark, calls=1)
+                group.add(bits, MOST_POSITIONS, 0, syndromes=2 ** degree_of(generator), mark=mark, calls=1)
     for syndrome in range(2 ** degree_of(9)):
         assert {len(p) % 2 for p in listed(9, 7, 4, syndrome)} <= {syndrome.bit_count() % 2}
         assert {len(p) % 2 for p in listed(11, 7, 4, syndrome)} == {0, 1}
 
 
+def marks_of_every_span():
+    """Lists across the period and past it, from marks that are not listed: of a smaller span than those of their count that follow, of
+    the same, and of the largest. Up to 24 bits with four positions."""
+    for generator, lengths in ((11, (7, 8, 15)), (15, (4, 5, 9)), (FIVE, (15, 16, 24)), (73, (9, 10, 22))):
+        group = Group(generator)
+        for bits in lengths:
+            end = bits - 1
+            for mark in ((0, 1), (1, end - 1), (end - 1, end), (0, end), (0, 1, 2), (0, end - 1, end), (1, 2, end), (end - 3, end - 2, end - 1, end), (0, 1, 2, end)):
+                if mark == tuple(sorted(set(mark))):
+                    group.add(bits, 4, 0, syndromes=2 ** degree_of(generator), mark=mark, room=31, calls=2)
+
+
 def long_packets():
     """The longest packets, and lists of which each last position is looked up in large tables."""
     five = Group(FIVE)
-    five.add(4096, 1, 0, span=32, room=1000)
+    five.add(4096, 1, 0, syndromes=32, room=1000)
     five.add(4096, 1, 26, room=RECORD_BYTES, calls=40)
     five.add(4096, 1, 26, mark=(4094,), room=RECORD_BYTES)
     five.add(4096, 1, 26, mark=(4095,), room=RECORD_BYTES)
@@ -191,11 +205,13 @@ def long_packets():
         ccitt.add(4096, 2, syndrome, room=4096)
         ccitt.add(4096, 2, syndrome, room=101, sizes=3)
     ccitt.add(4096, 2, 0, mark=(4094, 4095))
+    for mark in ((4094, 4095), (0, 1), (0, 2047), (2048, 4095), (1, 4095), (0, 4095)):
+        ccitt.add(4096, 2, 0x3331, mark=mark, room=202)
     ccitt.add(4096, 2, 0x1189, mark=(4095,), room=333)
     ccitt.add(4096, 2, 0, mark=(0, 4096), calls=1)
-    ccitt.add(131, 3, 0, span=40, room=700)
-    ccitt.add(131, 3, 0xFFC0, span=64, room=70)
-    ccitt.add(41, 4, 0x1021, span=50, room=47)
+    ccitt.add(131, 3, 0, syndromes=40, room=700)
+    ccitt.add(131, 3, 0xFFC0, syndromes=64, room=70)
+    ccitt.add(41, 4, 0x1021, syndromes=50, room=47)
 
 
 def refused_in_order():
@@ -248,6 +264,7 @@ every_small_list()
 joined_pages()
 every_mark()
 every_mark_for_every_syndrome()
+marks_of_every_span()
 long_packets()
 refused_in_order()
 refused_at_the_edges()

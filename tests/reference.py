@@ -73,8 +73,9 @@ def unfit_check_field(start, end, field):
 
 
 def in_order(pattern):
-    """The list's order, as a key to sort patterns by: fewer positions first, then by the smallest position that differs."""
-    return len(pattern), pattern
+    """The list's order, as a key to sort patterns by: fewer positions first, then the smaller span, from the smallest position to
+    the largest, then by the smallest position that differs."""
+    return len(pattern), max(pattern, default=0) - min(pattern, default=0), pattern
 
 
 @cache

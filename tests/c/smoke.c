@@ -489,8 +489,8 @@ static void tables(void)
 
 static void pages(void)
 {
-    static const uint8_t list[15] = { 2, 0, 0, 0, 6, 2, 0, 3, 0, 8, 2, 0, 5, 0, 7 };
-    uint8_t mark[RANGQODA_MARK_BYTES] = { RANGQODA_MARK_START };
+    static const uint8_t list[15] = { 2, 0, 5, 0, 7, 2, 0, 3, 0, 8, 2, 0, 0, 0, 6 };
+    uint8_t mark[RANGQODA_MARK_BYTES] = { RANGQODA_MARK_START }, unlisted[RANGQODA_MARK_BYTES] = { 2, 0, 1, 0, 2 };
     uint8_t output[RANGQODA_RECORD_BYTES], joined[64];
     uint64_t period, written = 0, records = 0;
     size_t used = 0, end = 0;
@@ -509,6 +509,11 @@ static void pages(void)
         calls++;
     }
     EXPECT(calls == 3 && records == 3 && end == sizeof list && memcmp(joined, list, sizeof list) == 0);
+
+    /* the mark {1,2} has span 1: all three follow it */
+    EXPECT(rangqoda_page(RANGQODA_FIVE, 9, 2, 30, step, 32, first, 32, unlisted, sizeof unlisted, joined, sizeof joined,
+                         &used, &written) == RANGQODA_ACCEPTED);
+    EXPECT(written == 3 && used == sizeof list && memcmp(joined, list, sizeof list) == 0 && unlisted[0] == RANGQODA_MARK_ENDED);
 
     mark[0] = RANGQODA_MOST_POSITIONS + 1;
     EXPECT(rangqoda_page(RANGQODA_FIVE, 9, 2, 30, step, 32, first, 32, mark, sizeof mark, output, sizeof output, &used,
@@ -560,9 +565,20 @@ static void every_set(unsigned bits, unsigned most, void (*visit)(const uint8_t 
     sets_from(0, bits, most, record, visit);
 }
 
-/* The list's order, of records with zeros behind them: fewer positions first, then by the positions from the smallest on. */
+/* The largest position minus the smallest, and 0 for one or none. */
+static unsigned span(const uint8_t *record)
+{
+    return record[0] < 2 ? 0 : position(record, record[0] - 1u) - position(record, 0);
+}
+
+/* The list's order, of records with zeros behind them: fewer positions first, then the smaller span, then by the positions from the
+   smallest on. */
 static int comes_before(const uint8_t *a, const uint8_t *b)
 {
+    if (a[0] != b[0])
+        return a[0] < b[0];
+    if (span(a) != span(b))
+        return span(a) < span(b);
     return memcmp(a, b, RANGQODA_RECORD_BYTES) < 0;
 }
 

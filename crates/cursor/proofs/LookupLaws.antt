@@ -28,7 +28,7 @@ use Rattle.cursor.specs.Cursors.{Serves, Prepared}
 use Rattle.cursor.specs.declared.Cursor.{Cursor}
 
 -- the syndrome of a set of positions is the sum of their powers
-syndrome-sum : (n g : ℕ) → Divisor n g → (ps : List ℕ) → syndrome n g ps ≡ xorAll (power n g) ps
+pub syndrome-sum : (n g : ℕ) → Divisor n g → (ps : List ℕ) → syndrome n g ps ≡ xorAll (power n g) ps
 unfolding syndrome powers xorAll power
 syndrome-sum n g d [] = rem-zero n g
 syndrome-sum n g d (p ∷ ps) = rem-xor n g (d .low) (d .high) (2 ^ p) (powers ps) ∙ ap (bitXor (rem n g (2 ^ p))) (syndrome-sum n g d ps)

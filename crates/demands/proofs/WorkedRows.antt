@@ -8,13 +8,13 @@ use Rattle.tables.specs.Tables.{power, least, period, step, first}
 use Rattle.checksum.specs.Checksum.{words, folded, sumFrom, sumOf, range, fieldOf, passes, unfitRange, unfitField, withField, asWritten, stamped}
 use Rattle.maker.specs.Stream.{nextState, byteOf, yielded, stateAfter}
 use Rattle.maker.specs.Calls.{made}
-use Rattle.patterns.specs.Order.{keyed, lower, before}
+use Rattle.patterns.specs.Order.{keyed, span, lower, before}
 use Rattle.patterns.specs.Listing.{syndrome, choose, upTo, sift, inserted, inOrder, listing, follows}
 use Rattle.verdicts.specs.Verdicts.{passesBoth, candidates}
 use Rattle.demands.specs.Worked.{Worked}
 
 pub worked-rows : Worked
-unfolding down downIn degree degreeIn reduce rem powers unfit polynomial polynomialAfter bytesOf unfitLength unfitValues asRead remainder sealed flip flips power least period step first words folded sumFrom sumOf range fieldOf passes unfitRange unfitField withField asWritten stamped nextState byteOf yielded stateAfter made keyed lower before syndrome choose upTo sift inserted inOrder listing follows passesBoth candidates
+unfolding down downIn degree degreeIn reduce rem powers unfit polynomial polynomialAfter bytesOf unfitLength unfitValues asRead remainder sealed flip flips power least period step first words folded sumFrom sumOf range fieldOf passes unfitRange unfitField withField asWritten stamped nextState byteOf yielded stateAfter made keyed span lower before syndrome choose upTo sift inserted inOrder listing follows passesBoth candidates
 worked-rows =
     record {
       row1 = refl;
@@ -40,4 +40,5 @@ worked-rows =
       row21 = (refl, refl);
       row22 = (λ limit. refl, refl, refl);
       row23 = (refl, refl);
+      row24 = refl;
     }

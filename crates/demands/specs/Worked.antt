@@ -55,10 +55,10 @@ pub record Worked : Type 0 where
   pub row6 : (listOf five 7 2 3 ≡ (0 ∷ 1 ∷ []) ∷ []) × (listOf five 8 2 3 ≡ (0 ∷ 1 ∷ []) ∷ (3 ∷ 7 ∷ []) ∷ [])
   -- five, N 2, syndrome 0, L 15; L 16: {}; {},{0,15}
   pub row7 : (listOf five 15 2 0 ≡ [] ∷ []) × (listOf five 16 2 0 ≡ [] ∷ (0 ∷ 15 ∷ []) ∷ [])
-  -- five, N 2, syndrome 30, L 9: {0,6},{3,8},{5,7}
-  pub row8 : listOf five 9 2 30 ≡ (0 ∷ 6 ∷ []) ∷ (3 ∷ 8 ∷ []) ∷ (5 ∷ 7 ∷ []) ∷ []
-  -- the same after mark {1,2}: {3,8},{5,7}
-  pub row9 : remaining (listOf five 9 2 30) (after (1 ∷ 2 ∷ [])) ≡ (3 ∷ 8 ∷ []) ∷ (5 ∷ 7 ∷ []) ∷ []
+  -- five, N 2, syndrome 30, L 9: {5,7},{3,8},{0,6}
+  pub row8 : listOf five 9 2 30 ≡ (5 ∷ 7 ∷ []) ∷ (3 ∷ 8 ∷ []) ∷ (0 ∷ 6 ∷ []) ∷ []
+  -- the same after mark {1,2}: {5,7},{3,8},{0,6}
+  pub row9 : remaining (listOf five 9 2 30) (after (1 ∷ 2 ∷ [])) ≡ (5 ∷ 7 ∷ []) ∷ (3 ∷ 8 ∷ []) ∷ (0 ∷ 6 ∷ []) ∷ []
   -- sum of 00 01 F2 03 F4 F5 F6 F7: DDF2h
   pub row10 : sumOf (0x00 ∷ 0x01 ∷ 0xF2 ∷ 0x03 ∷ 0xF4 ∷ 0xF5 ∷ 0xF6 ∷ 0xF7 ∷ []) ≡ 0xDDF2
   -- five, range [0,2), FF FF 05: Intact
@@ -90,9 +90,9 @@ pub record Worked : Type 0 where
   -- five, FF FF 05 stamped with [2,2), field 2; [3,3), field 3; [1,0), field 0: refused by 10; 9; 9
   pub row20 : (stampCall 53 (checkOf 2 2 2) (0xFF ∷ 0xFF ∷ 0x05 ∷ []) ≡ refused 10) × (stampCall 53 (checkOf 3 3 3) (0xFF ∷ 0xFF ∷ 0x05 ∷ []) ≡ refused 9)
       × (stampCall 53 (checkOf 1 0 0) (0xFF ∷ 0xFF ∷ 0x05 ∷ []) ≡ refused 9)
-  -- 9, range [0,2), 7F FF 02, N 2: lists {0,2} first; Several, 3, {0,23}
-  pub row21 : (take 1 (packetList (crcOf 9 0 0) 2 (0x7F ∷ 0xFF ∷ 0x02 ∷ [])) ≡ (0 ∷ 2 ∷ []) ∷ [])
-      × (verdict (crcOf 9 0 0) firstTwo 2 (0x7F ∷ 0xFF ∷ 0x02 ∷ []) ≡ several 3 (0 ∷ 23 ∷ []))
+  -- 9, range [0,2), 7F FF 02, N 2: lists {2,3} first; Several, 3, {6,23}
+  pub row21 : (take 1 (packetList (crcOf 9 0 0) 2 (0x7F ∷ 0xFF ∷ 0x02 ∷ [])) ≡ (2 ∷ 3 ∷ []) ∷ [])
+      × (verdict (crcOf 9 0 0) firstTwo 2 (0x7F ∷ 0xFF ∷ 0x02 ∷ []) ≡ several 3 (6 ∷ 23 ∷ []))
   -- five, range [0,2), field 0: 00 00 00; 80 00 00, N 1: Intact; lists {8},{23}; Repaired {23}
   pub row22 : ((limit : ℕ) → verdict (crcOf 53 0 0) firstTwo limit (0x00 ∷ 0x00 ∷ 0x00 ∷ []) ≡ intact)
       × (packetList (crcOf 53 0 0) 1 (0x80 ∷ 0x00 ∷ 0x00 ∷ []) ≡ (8 ∷ []) ∷ (23 ∷ []) ∷ [])
@@ -100,3 +100,5 @@ pub record Worked : Type 0 where
   -- five, FF FF 12 34 00 stamped with [0,4), field 2; field 0: FF FF FF FF 00; ED CB 12 34 00
   pub row23 : (stampPacket 53 (checkOf 0 4 2) (0xFF ∷ 0xFF ∷ 0x12 ∷ 0x34 ∷ 0x00 ∷ []) ≡ 0xFF ∷ 0xFF ∷ 0xFF ∷ 0xFF ∷ 0x00 ∷ [])
       × (stampPacket 53 (checkOf 0 4 0) (0xFF ∷ 0xFF ∷ 0x12 ∷ 0x34 ∷ 0x00 ∷ []) ≡ 0xED ∷ 0xCB ∷ 0x12 ∷ 0x34 ∷ 0x00 ∷ [])
+  -- 13, N 3, syndrome 4, L 6: {2},{4,5},{0,3},{0,1,4},{1,3,5}
+  pub row24 : listOf (generatorOf 13) 6 3 4 ≡ (2 ∷ []) ∷ (4 ∷ 5 ∷ []) ∷ (0 ∷ 3 ∷ []) ∷ (0 ∷ 1 ∷ 4 ∷ []) ∷ (1 ∷ 3 ∷ 5 ∷ []) ∷ []

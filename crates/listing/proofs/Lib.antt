@@ -1,2 +1,2 @@
-pub mod WalkOrderLaws
+pub mod ListedLaws
 pub mod MarkedLaws

@@ -1,5 +1,5 @@
 // The list of error patterns in its order: begun at a mark, and advanced from pattern to pattern. The positions of the pattern at
-// hand stand in front of a lent slice. The order in which a cursor meets the patterns is that of the list.
+// hand stand in front of a lent slice, and nothing else is kept between two patterns.
 use cursor::Cursor;
 use patterns::Mark;
 use patterns::Pattern;
@@ -16,12 +16,22 @@ ghost use Rattle.search.specs.Search.{Told};
 ghost use Rattle.cursor.specs.Cursors.{Prepared, InFront};
 ghost use Rattle.listing.specs.Listings.{listedBy, Marked};
 
+// The first listed pattern.
+fn lead(cursor: Cursor, pow: &[u32], first: &[u16], pos: &mut [u16]) -> Found
+    requires { ⌜ Prepared cursor (now pow) (now first) ⌝ }
+    ensures { λ r. ⌜ Told before (length (now (pow .entry))) (length (now (pos .entry))) (listedBy cursor (length (now (pow .entry))) (length (now (pos .entry)))) (listedBy cursor (length (now (pow .entry))) (length (now (pos .entry)))) r (now (pos .exit)) ⌝ }
+{
+    let g = cursor.generator.coefficients;
+    ordered::order_first(g, pow, first, cursor.period, cursor.syndrome, pos)
+}
+
 // The first listed pattern that follows the one in front of `pos`, which need not be listed.
 pub fn advance(cursor: Cursor, pow: &[u32], first: &[u16], pos: &mut [u16], count: usize) -> Found
     requires { ⌜ Prepared cursor (now pow) (now first) × InFront (length (now pow)) count (now pos) ⌝ }
     ensures { λ r. ⌜ Told before (length (now (pow .entry))) (length (now (pos .entry))) (listedBy cursor (length (now (pow .entry))) (length (now (pos .entry)))) (sift (before (take count (now (pos .entry)))) (listedBy cursor (length (now (pow .entry))) (length (now (pos .entry))))) r (now (pos .exit)) ⌝ }
 {
-    cursor::meet_next(cursor, pow, first, pos, count)
+    let g = cursor.generator.coefficients;
+    ordered::order_next(g, pow, first, cursor.period, cursor.syndrome, pos, count)
 }
 
 // The same for a pattern.
@@ -40,7 +50,7 @@ pub fn begin(cursor: Cursor, pow: &[u32], first: &[u16], mark: Mark, pos: &mut [
     ensures { λ r. ⌜ Told before (length (now (pow .entry))) (length (now (pos .entry))) (listedBy cursor (length (now (pow .entry))) (length (now (pos .entry)))) (remaining (listedBy cursor (length (now (pow .entry))) (length (now (pos .entry)))) (pointOf mark)) r (now (pos .exit)) ⌝ }
 {
     match mark {
-        Mark::Start => cursor::meet_first(cursor, pow, first, pos),
+        Mark::Start => lead(cursor, pow, first, pos),
         Mark::Ended => Found::Nothing,
         Mark::After(p) => go_on(cursor, pow, first, p, pos),
     }

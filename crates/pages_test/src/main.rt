@@ -223,7 +223,7 @@ fn with_syndrome(set: Setting, more: u64) -> Setting {
 // A sequence from the same mark for each of several syndromes, with the hashes and sums carried on.
 fn sequences(
     set: Setting,
-    span: u64,
+    syndromes: u64,
     mark: Mark,
     plan: Plan,
     steps: &[u16],
@@ -240,7 +240,7 @@ fn sequences(
         ended: 0,
     };
     let mut k: u64 = 0;
-    while k < span {
+    while k < syndromes {
         run = sequence(
             with_syndrome(set, k),
             plan,
@@ -271,8 +271,8 @@ fn case(text: &[u8], at: usize, steps: &[u16], firsts: &[u16], space: &mut [u8])
     let bits = testkit::wide(text, generator.next);
     let limit = testkit::wide(text, bits.next);
     let syndrome = testkit::wide(text, limit.next);
-    let span = testkit::number(text, syndrome.next);
-    let first = read_mark(text, span.next);
+    let syndromes = testkit::number(text, syndrome.next);
+    let first = read_mark(text, syndromes.next);
     let base = testkit::number(text, first.next);
     let sizes = testkit::number(text, base.next);
     let most = testkit::number(text, sizes.next);
@@ -288,7 +288,7 @@ fn case(text: &[u8], at: usize, steps: &[u16], firsts: &[u16], space: &mut [u8])
         most: most.value,
     };
     let mark = first.mark;
-    print_run(sequences(set, span.value, mark, plan, steps, firsts, space));
+    print_run(sequences(set, syndromes.value, mark, plan, steps, firsts, space));
     most.next
 }
 

@@ -8,7 +8,7 @@ use borrow.Author.Tests.{lt-ltb, le-ltb, eq-eqb, ne-eqb, ltb-true, eqb-true}
 use lib.Dec.{eqb, ltb}
 use lib.ListN.{length}
 use Rattle.base.proofs.Cases.{by-test, by-order, by-equal}
-use Rattle.patterns.specs.Order.{keyed, lower, before}
+use Rattle.patterns.specs.Order.{keyed, span, lower, before}
 use Rattle.patterns.specs.StrictOrder.{Trichotomy, precedes, equals, succeeds, StrictTotal}
 
 -- ---- by a number, and then by an order ----
@@ -118,17 +118,26 @@ lower-total = record { irreflexive = lower-self; transitive = lower-transitive; 
 
 pub before-strict-total : StrictTotal before
 unfolding before
-before-strict-total = keyed-total length lower lower-total
+before-strict-total = keyed-total length (keyed span lower) (keyed-total span lower lower-total)
 
 pub fewer-before : (p q : List ℕ) → length p < length q → before p q ≡ true
 unfolding before
-fewer-before p q h = keyed-less length lower p q h
+fewer-before p q h = keyed-less length (keyed span lower) p q h
 
 pub more-before : (p q : List ℕ) → length q < length p → before p q ≡ false
 unfolding before
-more-before p q h = keyed-more length lower p q h
+more-before p q h = keyed-more length (keyed span lower) p q h
 
--- among patterns of one count the positions decide
-pub level-before : (p q : List ℕ) → length p ≡ length q → before p q ≡ lower p q
+-- among patterns of one count the span decides, and among those of one span the positions
+level-before : (p q : List ℕ) → length p ≡ length q → before p q ≡ keyed span lower p q
 unfolding before
-level-before p q h = keyed-same length lower p q h
+level-before p q h = keyed-same length (keyed span lower) p q h
+
+pub narrower-before : (p q : List ℕ) → length p ≡ length q → span p < span q → before p q ≡ true
+narrower-before p q e h = level-before p q e ∙ keyed-less span lower p q h
+
+pub wider-before : (p q : List ℕ) → length p ≡ length q → span q < span p → before p q ≡ false
+wider-before p q e h = level-before p q e ∙ keyed-more span lower p q h
+
+pub as-wide-before : (p q : List ℕ) → length p ≡ length q → span p ≡ span q → before p q ≡ lower p q
+as-wide-before p q e h = level-before p q e ∙ keyed-same span lower p q h

@@ -6,7 +6,7 @@ ghost use Prim.Native.Nat.{_≤_};
 ghost use lib.ListN.{length, take, drop};
 ghost use Rattle.poly.specs.Fit.{Fit};
 ghost use Rattle.patterns.specs.Patterns.{mostPositions, positions, pointOf};
-ghost use Rattle.patterns.specs.Order.{lower, before};
+ghost use Rattle.patterns.specs.Order.{span, lower, before};
 ghost use Rattle.patterns.specs.Listing.{ascending, unfitLimit, unfitSyndrome};
 ghost use Rattle.patterns.specs.Marks.{unfitPattern, unfitMark};
 ghost use Rattle.patterns.specs.Slices.{spreadOut};
@@ -89,6 +89,22 @@ pub fn put_positions(p: Pattern, pos: &mut [u16])
     }
 }
 
+// The largest of ascending positions minus the smallest, and 0 for one or none. Of others too it is told.
+fn span_of(pos: &[u16]) -> u16
+    ensures { λ r. ⌜ r ≡ span (now (pos .entry)) ⌝ }
+{
+    let n = pos.len();
+    if n == 0 {
+        return 0;
+    }
+    let low = pos[0];
+    let high = pos[n - 1];
+    if high < low {
+        return 0;
+    }
+    high - low
+}
+
 // Of as many positions: has `p` the lower one at the first place where they differ?
 fn is_lower(p: &[u16], q: &[u16]) -> bool
     requires { ⌜ length (now p) ≡ length (now q) ⌝ }
@@ -117,6 +133,14 @@ fn in_order(p: &[u16], q: &[u16]) -> bool
         return true;
     }
     if q.len() < p.len() {
+        return false;
+    }
+    let across = span_of(p);
+    let other = span_of(q);
+    if across < other {
+        return true;
+    }
+    if other < across {
         return false;
     }
     is_lower(p, q)

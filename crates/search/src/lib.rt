@@ -24,7 +24,7 @@ pub enum Found {
 // Whether parity rules out sets of `count` positions with the sum `u`: it tells of generators with an even number of ones,
 // and of no other. The generator's ones are counted last: after a listed pattern, if their number is even, the first test
 // has answered.
-fn ruled_out(generator: u64, count: usize, u: usize) -> bool
+pub fn ruled_out(generator: u64, count: usize, u: usize) -> bool
     ensures { λ r. ⌜ r ≡ ruledOut generator count u ⌝ }
 {
     let s = usize::count_ones(u) as usize;

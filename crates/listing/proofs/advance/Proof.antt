@@ -1,13 +1,18 @@
--- `advance` meets the next pattern, in the order of the list.
-use mathlib.Core.Bool.{Bool}
+-- `advance` is the next set in the list's order, for the powers of the generator.
 use mathlib.Core.List.{List}
 use Prim.Native.Nat.{ℕ}
 use borrow.Author.Needs.{needs}
 use lib.ListN.{length, take}
-use Rattle.patterns.specs.Listing.{sift}
-use Rattle.listing.proofs.WalkOrderLaws.{told-listing}
+use Rattle.tables.specs.Tables.{power}
+use Rattle.cursor.proofs.LookupLaws.{odd-ones}
+use Rattle.listing.proofs.ListedLaws.{next-told}
 use Rattle.listing.proofs.advance.Statement.{statement}
 use Rattle.listing.proofs.advance.Tie as tie
+
+order-next-requires : tie.Need-order-next-requires
+order-next-requires c κs =
+    let p = c .before .before .before .before .pre in
+    (p .0 .ready, p .1 .0, p .1 .1, odd-ones (p .0))
 
 returns : tie.Need-returns
 returns c =
@@ -15,9 +20,8 @@ returns c =
     let s = f .before .before .before .before .before in
     let g = s .args .cursor .generator in
     let q : List ℕ = take (s .args .count) (s .args .pos .now) in
-    told-listing (g .degree) (g .coefficients) (length (s .args .pow .now)) (length (s .args .pos .now)) (s .args .cursor .syndrome)
-    (λ (R : List ℕ → List ℕ → Bool) (xs : List (List ℕ)). sift (R q) xs) (f .meet-next .result) (f .meet-next .last .1 .1 .1 .0)
-    (f .meet-next .ensures)
+    next-told (g .degree) (g .coefficients) (length (s .args .pow .now)) (length (s .args .pos .now)) (s .args .cursor .syndrome) (s .pre .0 .fit .divisor) q
+    (f .order-next .result) (f .order-next .last .1 .1 .1 .1 .1 .0) (f .order-next .ensures .0) (f .order-next .ensures .1 (power (g .degree) (g .coefficients)) (s .pre .0 .lookup))
 
 pub advance-spec : {M : Type 1} → statement M
-advance-spec = tie.close (tie.spec (λ c κs. search needs) (λ c. search needs) returns)
+advance-spec = tie.close (tie.spec order-next-requires (λ c. search needs) returns)

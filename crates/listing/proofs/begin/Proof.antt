@@ -1,5 +1,4 @@
 -- `begin` searches from the mark, by its case.
-use mathlib.Core.Bool.{Bool}
 use mathlib.Core.List.{List}
 use Prim.Native.Nat.{ℕ}
 use borrow.Author.Needs.{needs}
@@ -7,7 +6,6 @@ use lib.ListN.{length}
 use Rattle.patterns.specs.Order.{before}
 use Rattle.cursor.proofs.AheadLaws.{told-along}
 use Rattle.listing.specs.Listings.{listedBy}
-use Rattle.listing.proofs.WalkOrderLaws.{told-listing}
 use Rattle.listing.proofs.MarkedLaws.{from-start, from-ended, from-after, after-marked}
 use Rattle.listing.proofs.begin.Statement.{statement}
 use Rattle.listing.proofs.begin.Tie as tie
@@ -21,14 +19,10 @@ returns : tie.Need-returns
 returns c =
     let f = c .before .before in
     let s = f .before .before .before .before .before .before .before in
-    let g = s .args .cursor .generator in
     let l : ℕ = length (s .args .pow .now) in
     let m : ℕ = length (s .args .pos .now) in
-    let next = f .meet-first .last .1 .1 .1 .0 in
-    told-along before l m (listedBy (s .args .cursor) l m) (f .meet-first .result) next
-    (from-start (listedBy (s .args .cursor) l m) (f .before .before .enum-told .given .1))
-    (told-listing (g .degree) (g .coefficients) l m (s .args .cursor .syndrome) (λ (R : List ℕ → List ℕ → Bool) (xs : List (List ℕ)). xs) (f .meet-first .result) next
-    (f .meet-first .ensures))
+    let xs : List (List ℕ) = listedBy (s .args .cursor) l m in
+    told-along before l m xs (f .lead .result) (f .lead .last .1 .1 .1 .0) (from-start xs (f .before .before .enum-told .given .1)) (f .lead .ensures)
 
 returns-2 : tie.Need-returns-2
 returns-2 c =

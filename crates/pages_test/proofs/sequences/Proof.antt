@@ -7,10 +7,10 @@ use Rattle.pages_test.proofs.sequences.Statement.{statement}
 use Rattle.pages_test.proofs.sequences.Tie as tie
 
 abbrev Inv-loop : tie.InvT-loop
-Inv-loop set span mark plan steps firsts space₀ run₀ k₀ space run k = length space ≡ length space₀
+Inv-loop set syndromes mark plan steps firsts space₀ run₀ k₀ space run k = length space ≡ length space₀
 
 abbrev μ-loop : tie.MeasureT-loop
-μ-loop set span mark plan steps firsts space₀ run₀ k₀ space run k = span - k
+μ-loop set syndromes mark plan steps firsts space₀ run₀ k₀ space run k = syndromes - k
 
 pub sequences-spec : {M : Type 1} → statement M
 sequences-spec =

@@ -1,0 +1,6 @@
+pub mod FindLaws
+pub mod FrameLaws
+pub mod SpanLaws
+pub mod EndLaws
+pub mod BetweenLaws
+pub mod PartLaws

@@ -1,0 +1,4 @@
+pub mod PairLaws
+pub mod WidenLaws
+pub mod BeyondLaws
+pub mod FewLaws
