@@ -2,6 +2,7 @@ pub mod ReadBits
 pub mod SealedRangeLaws
 pub mod Demand2
 pub mod Demand3
+pub mod NarrowFirst
 pub mod PlainCalls
 pub mod OneAnswer
 pub mod NoChecksum

@@ -1,12 +1,11 @@
 -- What the searches in the list's order found, told of the list: its first pattern, and the first that follows another.
-use mathlib.Core.Path.{_≡_, refl, sym, ap, subst₂, _∙_}
-use mathlib.Core.Bool.{Bool, true}
+use mathlib.Core.Path.{_≡_, sym, ap, _∙_}
 use mathlib.Core.Logic.{_↔_}
 use mathlib.Core.List.{List, [], _∷_}
 use Prim.Native.Nat.{ℕ}
 use native.Mathlib.Omega.{arith}
 use lib.ListN.{take}
-use Rattle.base.specs.Lists.{In, here}
+use Rattle.base.specs.Lists.{In}
 use Rattle.base.proofs.ListLaws.{in-nothing, no-member}
 use Rattle.poly.specs.Fit.{Divisor}
 use Rattle.tables.specs.Tables.{power}

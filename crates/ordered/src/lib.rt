@@ -1,7 +1,6 @@
 // The sets whose powers have a given sum, in the list's order: the first, and the first that follows a set, count by count. Counts that
 // parity rules out are skipped. Contracts hold for any powers that the two tables describe.
 use search::Found;
-ghost use mathlib.Core.Path.{_≡_};
 ghost use Prim.Native.Nat.{ℕ, _+_, _≤_};
 ghost use lib.ListN.{length, take};
 ghost use Rattle.base.specs.Lists.{Ascending};

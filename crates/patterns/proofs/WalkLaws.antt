@@ -1,6 +1,6 @@
 -- A walk meets every set of the list, and each once, for it ascends in an order of its own. What is met in any order is the list once it
 -- is put in the list's.
-use mathlib.Core.Path.{_≡_, refl, sym, ap, _∙_}
+use mathlib.Core.Path.{_≡_, refl, sym, _∙_}
 use mathlib.Core.Bool.{Bool, true}
 use mathlib.Core.Logic.{_↔_}
 use mathlib.Core.List.{List, [], _∷_}

@@ -1,6 +1,6 @@
 -- What a search tells of the first that meets something: for an equivalent something, by another order that agrees, of two kinds one
 -- behind the other, and of the sets that are placed one position after the other.
-use mathlib.Core.Path.{_≡_, sym, subst, _∙_}
+use mathlib.Core.Path.{_≡_, subst, _∙_}
 use mathlib.Core.Bool.{Bool, true, false}
 use mathlib.Core.Logic.{_⊎_, ⊎-elim, _↔_}
 use mathlib.Core.List.{List, [], _∷_}

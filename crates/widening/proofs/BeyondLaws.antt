@@ -1,9 +1,9 @@
 -- What follows a set of two positions or more among those of its count: with the same ends, then of the same span, then of a greater one.
-use mathlib.Core.Path.{_≡_, sym, ap, subst, subst₂, _∙_}
-use mathlib.Core.Bool.{Bool, true, false}
+use mathlib.Core.Path.{_≡_, sym, subst, subst₂, _∙_}
+use mathlib.Core.Bool.{Bool, true}
 use mathlib.Core.Logic.{_⊎_, inl, inr}
 use mathlib.Core.List.{List}
-use Prim.Native.Nat.{ℕ, suc, _+_, _-_, _<_, _≤_}
+use Prim.Native.Nat.{ℕ, suc, _+_, _-_, _<_}
 use native.Mathlib.Omega.{arith}
 use lib.ListN.{length}
 use Rattle.base.proofs.Cases.{by-order, by-equal}
@@ -11,7 +11,7 @@ use Rattle.patterns.specs.Order.{before}
 use Rattle.patterns.specs.StrictOrder.{Foremost}
 use Rattle.patterns.proofs.OrderLaws.{before-strict-total}
 use Rattle.patterns.proofs.SortedLaws.{never-both}
-use Rattle.spans.specs.Spans.{Finds, Summing, framed, Between, OfSpan, Behind}
+use Rattle.spans.specs.Spans.{Finds, Summing, Between, OfSpan, Behind}
 use Rattle.spans.proofs.FindLaws.{finds-in-first, finds-in-second}
 use Rattle.spans.proofs.FrameLaws.{Framed, narrower-framed, lower-framed}
 use Rattle.spans.proofs.SpanLaws.{further-before, wider-after}

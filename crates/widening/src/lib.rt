@@ -1,6 +1,5 @@
 // The sets of one count whose powers have a given sum, in the list's order: the first, and the first that follows a set. Sets of two
 // positions or more go by their spans, the narrowest first. Contracts hold for any powers that the two tables describe.
-ghost use mathlib.Core.Path.{_≡_};
 ghost use Prim.Native.Nat.{ℕ, _-_, _≤_};
 ghost use lib.ListN.{length};
 ghost use Rattle.base.specs.Lists.{Ascending};
@@ -100,10 +99,10 @@ pub fn first_of_count(pow: &[u32], first: &[u16], period: usize, u: usize, pos: 
     requires { ⌜ Ready (now pow) (now first) period 0 u ⌝ }
     ensures { λ r. ⌜ ((power : ℕ → ℕ) → Lookup power (now (pow .entry)) (now (first .entry)) period → Finds before (Summing power (length (now (pow .entry))) (length (now (pos .entry))) 0 u) r (now (pos .exit))) ⌝ }
 {
-    if pos.len() < 2 {
-        return placing::place(pow, first, period, 0, u, pos);
+    if 1 < pos.len() {
+        return from_span(pow, first, period, 1, u, pos);
     }
-    from_span(pow, first, period, 1, u, pos)
+    placing::place(pow, first, period, 0, u, pos)
 }
 
 // The first set of as many positions that follows the one in `pos`, which need not have the sum `u`.

@@ -1,5 +1,4 @@
 -- `lead` is the first set in the list's order, for the powers of the generator.
-use Prim.Native.Nat.{ℕ}
 use borrow.Author.Needs.{needs}
 use lib.ListN.{length}
 use Rattle.tables.specs.Tables.{power}

@@ -1,18 +1,18 @@
 -- `climb` finds the first set of the counts from `count` on. The loop's invariant: what is first from the count `k` on is first from
 -- `count` on.
-use mathlib.Core.Path.{_≡_, refl, sym, ap, _∙_}
+use mathlib.Core.Path.{_≡_, refl, sym, _∙_}
 use mathlib.Core.Bool.{Bool, true, false}
-use mathlib.Core.List.{List, _++_}
-use Prim.Native.Nat.{ℕ, _+_, _-_, _<_, _≤_}
+use mathlib.Core.List.{List}
+use Prim.Native.Nat.{ℕ, _+_, _-_, _≤_}
 use borrow.Author.Needs.{needs}
 use native.Mathlib.Omega.{arith}
-use lib.ListN.{length, take, drop}
+use lib.ListN.{length}
 use lib.Seq.{length-take-le, length-front}
 use Rattle.patterns.specs.Order.{before}
 use Rattle.placing.specs.Placing.{Lookup}
 use Rattle.patterns.specs.StrictOrder.{Foremost}
-use Rattle.spans.specs.Spans.{Finds, Summing, Behind}
-use Rattle.ordered.specs.Ordered.{FindsAt, Among}
+use Rattle.spans.specs.Spans.{Finds, Summing}
+use Rattle.ordered.specs.Ordered.{Among}
 use Rattle.ordered.proofs.ClimbLaws.{climb-hit, climb-miss, climb-past, found-front}
 use Rattle.ordered.proofs.climb.Statement.{statement}
 use Rattle.ordered.proofs.climb.Tie as tie

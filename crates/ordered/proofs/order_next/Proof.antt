@@ -1,17 +1,14 @@
 -- `order_next` goes on among the sets of the given one's count, and then climbs through the counts above it.
-use mathlib.Core.Path.{_≡_, refl, sym, ap, _∙_}
-use mathlib.Core.Bool.{Bool, true, false}
-use mathlib.Core.List.{List, _++_}
-use Prim.Native.Nat.{ℕ, _+_, _-_, _<_, _≤_}
+use mathlib.Core.Path.{sym}
+use mathlib.Core.List.{List}
+use Prim.Native.Nat.{ℕ, _-_}
 use borrow.Author.Needs.{needs}
-use native.Mathlib.Omega.{arith}
-use lib.ListN.{length, take, drop}
+use lib.ListN.{length, take}
 use lib.Seq.{length-take-le, length-front}
 use Rattle.patterns.specs.Order.{before}
-use Rattle.placing.specs.Placing.{Lookup}
 use Rattle.patterns.specs.StrictOrder.{Foremost}
-use Rattle.spans.specs.Spans.{Finds, Summing, Behind}
-use Rattle.ordered.specs.Ordered.{FindsAt, Among}
+use Rattle.spans.specs.Spans.{Summing, Behind}
+use Rattle.ordered.specs.Ordered.{Among}
 use Rattle.ordered.proofs.ClimbLaws.{behind-hit, behind-miss, found-front, found-by}
 use Rattle.ordered.proofs.order_next.Statement.{statement}
 use Rattle.ordered.proofs.order_next.Tie as tie

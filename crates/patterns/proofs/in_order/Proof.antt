@@ -1,7 +1,7 @@
 -- `in_order` is the test of its definition: the counts decide where they differ, else the spans, else the positions.
 use native.Mathlib.Omega.{arith}
 use borrow.Author.Needs.{needs}
-use mathlib.Core.Path.{_≡_, sym, _∙_}
+use mathlib.Core.Path.{sym, _∙_}
 use Rattle.patterns.proofs.OrderLaws.{fewer-before, more-before, narrower-before, wider-before, as-wide-before}
 use Rattle.patterns.proofs.in_order.Statement.{statement}
 use Rattle.patterns.proofs.in_order.Tie as tie

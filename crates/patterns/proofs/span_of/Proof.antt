@@ -1,7 +1,7 @@
 -- `span_of` is the last position minus the first, and 0 where there is none.
 use native.Mathlib.Omega.{arith}
 use borrow.Author.Needs.{needs}
-use mathlib.Core.Path.{_≡_, sym, _∙_}
+use mathlib.Core.Path.{sym}
 use Rattle.patterns.proofs.CompareLaws.{span-few, span-ends}
 use Rattle.patterns.proofs.span_of.Statement.{statement}
 use Rattle.patterns.proofs.span_of.Tie as tie

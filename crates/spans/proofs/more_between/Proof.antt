@@ -1,5 +1,5 @@
 -- `more_between` goes on with what is between the ends, by its positions.
-use mathlib.Core.Path.{_≡_, sym}
+use mathlib.Core.Path.{sym}
 use Prim.Native.Nat.{ℕ, _-_, _^_, _<_, _≤_}
 use borrow.Author.Needs.{needs}
 use native.Mathlib.Omega.{arith}

@@ -79,7 +79,7 @@ returns c power t =
     let room : length (midOf 1 (n - 1 - 1) (i .pos)) ≡ n - 2 = mid-len 1 (n - 1) (i .pos) (omega (arith, i .inv .2)) ∙ omega arith in
     rw (part-framed (i .pos) ys n (i .a) (i .a + d) (i .inv .2) (omega (arith, p .kept .1 .1 .1 .1 .1 .0, room)))
     (i .inv .5 power t true _
-    (turn-hit power (n - 2) (s .args .u) l (i .a) (i .a + d) d refl (omega arith) _ _ _ _ (length-take-le (i .a + d) (s .args .pow .now) h) room refl
+    (turn-hit power (n - 2) (s .args .u) l (i .a) (i .a + d) d refl (omega arith) _ _ _ _ (length-take-le (i .a + d) (s .args .pow .now) h) room (omega arith)
     (left-known t (s .args .u) (i .a) (i .a + d) (omega arith) (omega arith))
     (p .result) ys (p .ensures power (lookup-front t (i .a + d) h)) (c .if1 .taken) (omega arith)))
 
@@ -101,7 +101,7 @@ loop-again c =
       refl,
       λ power t r x f.
           i .inv .5 power t r x
-          (turn-miss power (n - 2) (s .args .u) l (i .a) (i .a + d) d refl (omega arith) _ _ _ _ (length-take-le (i .a + d) (s .args .pow .now) h) room refl
+          (turn-miss power (n - 2) (s .args .u) l (i .a) (i .a + d) d refl (omega arith) _ _ _ _ (length-take-le (i .a + d) (s .args .pow .now) h) room (omega arith)
           (left-known t (s .args .u) (i .a) (i .a + d) (omega arith) (omega arith))
           (p .result) ys (p .ensures power (lookup-front t (i .a + d) h)) (c .if1 .left) r x f),
     )

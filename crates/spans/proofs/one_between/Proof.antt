@@ -1,14 +1,14 @@
 -- `one_between` finds the nearest position past the one between the ends.
 use mathlib.Core.Path.{_≡_, refl}
 use mathlib.Core.Bool.{Bool, true, false}
-use mathlib.Core.List.{List, [], _∷_}
+use mathlib.Core.List.{[], _∷_}
 use Prim.Native.Nat.{ℕ, _^_, _<_}
 use borrow.Author.Needs.{needs}
 use borrow.Author.Tests.{lt-ltb, le-ltb}
 use native.Mathlib.Omega.{arith}
 use lib.Bits.{xor-lt}
 use lib.Dec.{ltb}
-use lib.ListN.{length, getD}
+use lib.ListN.{getD}
 use Rattle.patterns.specs.Order.{before}
 use Rattle.placing.specs.Placing.{Lookup}
 use Rattle.spans.specs.Spans.{Finds, framed, Between, Behind}

@@ -1,11 +1,11 @@
 -- `three_of_span` finds the first set of three of one span. The loop's invariant: what is first from `a` on is first from `from` on.
-use mathlib.Core.Path.{_≡_, refl, sym, ap₂, _∙_}
+use mathlib.Core.Path.{_≡_, refl}
 use mathlib.Core.Bool.{Bool, true, false}
 use mathlib.Core.List.{List}
 use Prim.Native.Nat.{ℕ, _+_, _-_, _^_, _<_, _≤_}
 use borrow.Author.Needs.{needs}
 use native.Mathlib.Omega.{arith}
-use lib.Bits.{bitXor, xor-lt}
+use lib.Bits.{xor-lt}
 use lib.ListN.{length, getD, length-set}
 use Rattle.patterns.specs.Order.{before}
 use Rattle.placing.specs.Placing.{Lookup}
@@ -60,8 +60,8 @@ returns c power t =
     let d = s .args .span in
     rw (set-three (i .pos) (i .a) (p .result) (i .a + d) (i .inv .2))
     (i .inv .3 power t true _
-    (three-hit power (length (s .args .pow .now)) (s .args .u) (i .a) (i .a + d) d refl (s .pre .2) _ _ refl (left-known t (s .args .u) (i .a) (i .a + d) (omega arith) (omega arith))
-    (p .result) (p .ensures power t) (c .if1 .taken) (omega arith)))
+    (three-hit power (length (s .args .pow .now)) (s .args .u) (i .a) (i .a + d) d refl (s .pre .2) _ _ (omega arith) (left-known t (s .args .u) (i .a) (i .a + d) (omega arith) (omega arith))
+    (p .result) (p .ensures power t) (omega (arith, c .if1 .taken)) (omega arith)))
 
 loop-again : tie.Need-loop-again Inv-loop μ-loop
 loop-again c =
@@ -74,8 +74,8 @@ loop-again c =
       i .inv .2,
       λ power t r x f.
           i .inv .3 power t r x
-          (three-miss power (length (s .args .pow .now)) (s .args .u) (i .a) (i .a + d) d refl (s .pre .2) _ _ refl (left-known t (s .args .u) (i .a) (i .a + d) (omega arith) (omega arith))
-          (p .result) (p .ensures power t) (c .if1 .left) r x f),
+          (three-miss power (length (s .args .pow .now)) (s .args .u) (i .a) (i .a + d) d refl (s .pre .2) _ _ (omega arith) (left-known t (s .args .u) (i .a) (i .a + d) (omega arith) (omega arith))
+          (p .result) (p .ensures power t) (omega (arith, c .if1 .left)) r x f),
     )
 
 returns-2 : tie.Need-returns-2 Inv-loop μ-loop

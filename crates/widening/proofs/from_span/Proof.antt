@@ -1,9 +1,9 @@
 -- `from_span` goes through the spans from `span` on, and leaves out those that have no set. The invariant: what is first from the span `d`
 -- on is first from `span` on.
-use mathlib.Core.Path.{_≡_, refl, sym, ap, _∙_}
+use mathlib.Core.Path.{_≡_, refl, _∙_}
 use mathlib.Core.Bool.{Bool, true, false}
 use mathlib.Core.List.{List}
-use Prim.Native.Nat.{ℕ, _+_, _-_, _<_, _≤_}
+use Prim.Native.Nat.{ℕ, _-_, _≤_}
 use borrow.Author.Needs.{needs}
 use native.Mathlib.Omega.{arith}
 use lib.ListN.{length}
@@ -11,7 +11,7 @@ use Rattle.patterns.specs.Order.{before}
 use Rattle.placing.specs.Placing.{Lookup}
 use Rattle.patterns.specs.StrictOrder.{Foremost}
 use Rattle.spans.specs.Spans.{Finds, OfSpan}
-use Rattle.widening.specs.Widening.{FromSpan, Spanless}
+use Rattle.widening.specs.Widening.{FromSpan}
 use Rattle.widening.proofs.WidenLaws.{wide-hit, wide-miss, wide-past, spans-left-out}
 use Rattle.widening.proofs.from_span.Statement.{statement}
 use Rattle.widening.proofs.from_span.Tie as tie

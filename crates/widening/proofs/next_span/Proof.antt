@@ -1,14 +1,12 @@
 -- `next_span`: of two positions, every set of a span from `span` on has one of `best` or more. The invariant says so of the sets
 -- whose smallest position is below `a`.
-use mathlib.Core.Path.{_≡_, refl, sym, ap, _∙_}
-use mathlib.Core.Bool.{Bool, true, false}
-use Prim.Native.Nat.{ℕ, _+_, _-_, _^_, _<_, _≤_}
+use mathlib.Core.Path.{_≡_, ap}
+use Prim.Native.Nat.{ℕ, _-_, _≤_}
 use borrow.Author.Needs.{needs}
 use native.Mathlib.Omega.{arith}
-use lib.Bits.{bitXor, xor-lt}
-use lib.ListN.{length, getD}
+use lib.Bits.{bitXor}
+use lib.ListN.{length}
 use Rattle.placing.specs.Placing.{Lookup}
-use Rattle.widening.specs.Widening.{Spanless}
 use Rattle.placing.proofs.NearestLaws.{ready-next}
 use Rattle.widening.proofs.PairLaws.{Pairs, pairs-none, pairs-turn, pairs-spanless, spanless-self}
 use Rattle.widening.proofs.next_span.Statement.{statement}
