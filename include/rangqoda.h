@@ -43,10 +43,13 @@
  *   pattern    A set of at most 4 positions: bits that may have flipped. Its
  *              syndrome is what is left of the sum of their powers of x.
  *   limit      N, the most positions that a listed pattern may have: 1 to 4.
+ *   span       Of a pattern: its largest position minus its smallest, and 0
+ *              for one position or none.
  *   list       All patterns with a given syndrome, below L and with at most N
- *              positions. Small patterns stand before large ones; those of one
- *              size go by their smallest positions, the lower first, then by
- *              the next smallest, and so on.
+ *              positions. Small patterns stand before large ones. Those of one
+ *              size go by their span, the narrower first. Those of one size
+ *              and span go by their smallest positions, the lower first, then
+ *              by the next smallest, and so on.
  *   sum        RFC 1071's: bytes as 16-bit numbers, high byte first, with a
  *              zero behind an odd one, and carries added back in. There is no
  *              pseudo-header. The sum of nothing is 0.
@@ -224,6 +227,9 @@
  *    64 bytes   0.1 ms    0.1 ms    0.3 ms    0.03 s
  *   512 bytes   0.1 ms    0.1 ms    0.03 s    30 s
  *
+ * A whole list at N = 2 takes 1 ms for 512 bytes, and a repair does not: the
+ * list has narrow pairs first, and they are looked for span by span.
+ *
  * With a generator that has an even number of ones, as RANGQODA_CCITT, an even
  * number of flipped bits leaves a remainder with an even number of ones, and an
  * odd number of them one with an odd number, if the packet sent passes the CRC.
@@ -291,7 +297,7 @@ extern "C" {
 
 /* The version, which moves with CHANGELOG.md. */
 #define RANGQODA_VERSION_MAJOR 0
-#define RANGQODA_VERSION_MINOR 9
+#define RANGQODA_VERSION_MINOR 10
 #define RANGQODA_VERSION_PATCH 0
 
 /* Before a declaration: the compiler warns where the answer is not read. */

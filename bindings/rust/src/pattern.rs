@@ -1,5 +1,6 @@
 //! Patterns, the marks between them and the verdicts that name them, each with its bytes at the C boundary.
 
+use std::cmp::Ordering;
 use std::fmt;
 
 /// The most positions of a pattern.
@@ -20,7 +21,10 @@ const MARK_ENDED: u8 = 0xFF;
 /// An error pattern: up to four bit positions.
 ///
 /// Patterns from a list ascend strictly. One that a caller makes may hold any positions; a [`Mark`] with an unfit one is
-/// refused by the call that gets it. Patterns compare as the list orders them.
+/// refused by the call that gets it.
+///
+/// Patterns compare as the list orders them. Fewer positions come first. Equal counts go by their [span](Pattern::span), the
+/// smaller first. Equal spans go by their positions, from the first on, the lower first.
 ///
 /// ```
 /// use rangqoda::Pattern;
@@ -29,11 +33,15 @@ const MARK_ENDED: u8 = 0xFF;
 /// assert_eq!(pattern.as_slice(), [3, 8]);
 /// assert!(Pattern::new(&[40]).unwrap() < pattern);
 /// assert!(Pattern::new(&[1, 2, 3, 4, 5]).is_none());
+///
+/// // A narrower pair precedes a lower one. Pairs of equal span go by their positions.
+/// assert!(Pattern::new(&[5, 7]).unwrap() < pattern);
+/// assert!(pattern < Pattern::new(&[4, 9]).unwrap());
 /// ```
-#[derive(Clone, Copy, Default, PartialEq, Eq, PartialOrd, Ord, Hash)]
+#[derive(Clone, Copy, Default, PartialEq, Eq, Hash)]
 pub struct Pattern {
     count: u8,
-    /// Zero from `count` on, so that the derived order is the list's.
+    /// Zero from `count` on, so that patterns of the same positions are equal.
     positions: [u16; MOST_POSITIONS],
 }
 
@@ -67,6 +75,24 @@ impl Pattern {
         self.count == 0
     }
 
+    /// The span: the largest position minus the smallest, and 0 for one position or none.
+    ///
+    /// Positions that do not ascend have the last minus the first for it, and 0 where the last is lower.
+    ///
+    /// ```
+    /// use rangqoda::Pattern;
+    ///
+    /// assert_eq!(Pattern::new(&[3, 4, 8]).unwrap().span(), 5);
+    /// assert_eq!(Pattern::new(&[40]).unwrap().span(), 0);
+    /// ```
+    #[must_use]
+    pub fn span(&self) -> u16 {
+        match self.as_slice() {
+            [first, .., last] => last.saturating_sub(*first),
+            _ => 0,
+        }
+    }
+
     /// Writes the record: the count, then each position in two bytes, high byte first.
     fn write(&self, record: &mut [u8; RECORD_BYTES]) {
         record.fill(0);
@@ -89,6 +115,19 @@ impl Pattern {
     }
 }
 
+impl Ord for Pattern {
+    fn cmp(&self, other: &Pattern) -> Ordering {
+        let key = |pattern: &Pattern| (pattern.count, pattern.span(), pattern.positions);
+        key(self).cmp(&key(other))
+    }
+}
+
+impl PartialOrd for Pattern {
+    fn partial_cmp(&self, other: &Pattern) -> Option<Ordering> {
+        Some(self.cmp(other))
+    }
+}
+
 impl AsRef<[u16]> for Pattern {
     fn as_ref(&self) -> &[u16] {
         self.as_slice()
@@ -108,7 +147,7 @@ pub enum Mark {
     Start,
     /// Behind the last pattern.
     Ended,
-    /// After this pattern, which need not be a listed one.
+    /// After this pattern, which need not be a listed one: what follows is what comes after it in the list's order.
     After(Pattern),
 }
 

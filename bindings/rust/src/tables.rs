@@ -187,7 +187,7 @@ impl Tables {
         repair(crc, range, field, limit, self.as_slices(), packet, output)
     }
 
-    /// Every pattern of a list, in its order. Refused by 2, 3, 4.
+    /// Every pattern of a list, in its order: of one size the narrower come first. Refused by 2, 3, 4.
     ///
     /// ```
     /// use rangqoda::{Tables, FIVE};
@@ -197,7 +197,7 @@ impl Tables {
     /// for pattern in tables.patterns(9, 2, 30)? {
     ///     found.push(pattern.as_slice().to_vec());
     /// }
-    /// assert_eq!(found, [[0, 6], [3, 8], [5, 7]]);
+    /// assert_eq!(found, [[5, 7], [3, 8], [0, 6]]);
     /// # Ok::<(), rangqoda::Refusal>(())
     /// ```
     pub fn patterns(&self, length: usize, limit: usize, syndrome: u64) -> Result<Patterns<'_>, Refusal> {

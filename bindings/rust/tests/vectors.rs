@@ -67,7 +67,7 @@ fn lists_of_five() {
     assert_eq!(list(FIVE, 8, 2, 3), [[0, 1], [3, 7]]);
     assert_eq!(list(FIVE, 15, 2, 0), [vec![]]);
     assert_eq!(list(FIVE, 16, 2, 0), [vec![], vec![0, 15]]);
-    assert_eq!(list(FIVE, 9, 2, 30), [[0, 6], [3, 8], [5, 7]]);
+    assert_eq!(list(FIVE, 9, 2, 30), [[5, 7], [3, 8], [0, 6]]);
 }
 
 #[test]
@@ -75,10 +75,42 @@ fn a_list_after_a_mark_that_is_not_listed() {
     let tables = Tables::new(FIVE).unwrap();
     let mut output = [0xAA; 20];
     let found = tables.page(9, 2, 30, Mark::After(pattern(&[1, 2])), &mut output).unwrap();
-    assert_eq!(found.patterns(&output).collect::<Vec<_>>(), [pattern(&[3, 8]), pattern(&[5, 7])]);
-    assert_eq!((found.used, found.written, found.next), (10, 2, Mark::Ended));
-    assert_eq!(output[..10], [2, 0, 3, 0, 8, 2, 0, 5, 0, 7]);
-    assert_eq!(output[10..], [0xAA; 10]);
+    assert_eq!(found.patterns(&output).collect::<Vec<_>>(), [pattern(&[5, 7]), pattern(&[3, 8]), pattern(&[0, 6])]);
+    assert_eq!((found.used, found.written, found.next), (15, 3, Mark::Ended));
+    assert_eq!(output[..15], [2, 0, 5, 0, 7, 2, 0, 3, 0, 8, 2, 0, 0, 0, 6]);
+    assert_eq!(output[15..], [0xAA; 5]);
+}
+
+/// Marks before, among and behind the three patterns of that list, with how many of the three do not follow.
+#[test]
+fn marks_by_count_span_and_positions() {
+    let tables = Tables::new(FIVE).unwrap();
+    let list = [[5, 7], [3, 8], [0, 6]].map(|positions| pattern(&positions));
+    for (mark, passed) in [
+        (&[][..], 0),
+        (&[8], 0),
+        (&[0, 1], 0),
+        (&[7, 8], 0),
+        (&[4, 6], 0),
+        (&[5, 7], 1),
+        (&[6, 8], 1),
+        (&[0, 3], 1),
+        (&[4, 8], 1),
+        (&[2, 7], 1),
+        (&[3, 8], 2),
+        (&[0, 6], 3),
+        (&[1, 7], 3),
+        (&[0, 8], 3),
+    ] {
+        let mut output = [0; 20];
+        let found = tables.page(9, 2, 30, Mark::After(pattern(mark)), &mut output).unwrap();
+        assert_eq!(found.patterns(&output).collect::<Vec<_>>(), list[passed..], "{mark:?}");
+    }
+}
+
+#[test]
+fn a_list_of_thirteen() {
+    assert_eq!(list(13, 6, 3, 4), [vec![2], vec![4, 5], vec![0, 3], vec![0, 1, 4], vec![1, 3, 5]]);
 }
 
 #[test]
@@ -110,15 +142,15 @@ fn verdicts_of_five() {
     assert_eq!(output, [0xFF, 0xFF, 0x05]);
 }
 
-/// Several names the first pattern that passes, here another than the first listed.
+/// Several names the first pattern that passes, here neither the first listed nor the one of the lowest positions, {0, 23}.
 #[test]
 fn verdict_of_nine() {
     let mut output = [0xAA; 3];
     let s = remainder(Crc::plain(9), &[0x7F, 0xFF, 0x02]).unwrap();
-    assert_eq!(list(9, 24, 2, s)[0], [0, 2]);
+    assert_eq!(list(9, 24, 2, s)[0], [2, 3]);
     let tables = Tables::new(9).unwrap();
     let several = tables.repair(Crc::plain(9), 0..2, 0, 2, &[0x7F, 0xFF, 0x02], &mut output).unwrap();
-    assert_eq!(several, Verdict::Several { count: 3, pattern: pattern(&[0, 23]) });
+    assert_eq!(several, Verdict::Several { count: 3, pattern: pattern(&[6, 23]) });
     assert_eq!(output, [0xAA; 3]);
 }
 
@@ -328,7 +360,7 @@ fn no_pair_comes_twice_and_none_has_a_position_twice() {
 #[test]
 fn parity_is_not_taken_for_granted() {
     // 11 has three ones: one list holds patterns of one and of two positions
-    assert_eq!(list(11, 7, 2, 6), [vec![4], vec![0, 5], vec![1, 2], vec![3, 6]]);
+    assert_eq!(list(11, 7, 2, 6), [vec![4], vec![1, 2], vec![3, 6], vec![0, 5]]);
 }
 
 #[test]

@@ -1,23 +1,24 @@
 -- Narrow patterns first (docs/RULES.md, sections 3 and 10), about the calls: of any two records of a sequence of pages, and of the pattern
 -- that Several names beside any other that leads to a passing packet. And what a span is: the greatest distance of two positions.
-use mathlib.Core.Path.{_≡_, refl, sym, _∙_}
-use mathlib.Core.Bool.{Bool, true, true≢false}
+use mathlib.Core.Path.{_≡_, sym, _∙_}
+use mathlib.Core.Bool.{true, true≢false}
 use mathlib.Core.Logic.{_↔_}
-use mathlib.Core.List.{List, [], _∷_}
-use Prim.Native.Nat.{ℕ, zero, suc, _-_, _<_, _≤_}
+use mathlib.Core.List.{List, []}
+use Prim.Native.Nat.{ℕ, _-_, _<_, _≤_}
 use native.Mathlib.Omega.{arith}
 use lib.ListN.{length, getD, take}
 use lib.Seq.{length-take-le}
-use Rattle.base.specs.Lists.{In, here, there, Ascending, ends, next}
+use Rattle.base.specs.Lists.{Ascending}
 use Rattle.base.specs.Outcome.{accepted}
 use Rattle.base.proofs.Cases.{by-order, by-equal}
+use Rattle.base.proofs.ListLaws.{ascending-on}
 use Rattle.packet.specs.Packet.{bits, remainder}
 use Rattle.packet.specs.declared.Crc.{Crc}
 use Rattle.checksum.specs.declared.Check.{Check}
 use Rattle.patterns.specs.Order.{span, before}
-use Rattle.patterns.specs.StrictOrder.{Sorted, empty, first}
 use Rattle.patterns.proofs.OrderLaws.{fewer-before, more-before, narrower-before, wider-before, as-wide-before}
 use Rattle.patterns.proofs.CompareLaws.{span-ends}
+use Rattle.patterns.proofs.SortedLaws.{sorted-take, sorted-at}
 use Rattle.patterns.proofs.ListingLaws.{listing-sorted}
 use Rattle.records.specs.Records.{records}
 use Rattle.records.specs.Sequences.{joined, reported}
@@ -51,49 +52,12 @@ before-precedes p q = (
 
 -- ---- the span ----
 
-ascends-on : {l from : ℕ} {ps : List ℕ} → Ascending l from ps → (i j : ℕ) → i ≤ j → j < length ps → getD ps i 0 ≤ getD ps j 0
-ascends-on ends i j h k = absurd (omega arith)
-ascends-on (next a b c) zero zero h k = omega arith
-ascends-on (next a b c) zero (suc j) h k = omega (arith, from-on c j (omega arith))
-  where
-    from-on : {l from : ℕ} {ps : List ℕ} → Ascending l from ps → (i : ℕ) → i < length ps → from ≤ getD ps i 0
-    from-on ends i k = absurd (omega arith)
-    from-on (next a b c) zero k = a
-    from-on (next a b c) (suc i) k = omega (arith, from-on c i (omega arith))
-ascends-on (next a b c) (suc i) zero h k = absurd (omega arith)
-ascends-on (next a b c) (suc i) (suc j) h k = ascends-on c i j (omega arith) (omega arith)
-
--- no two positions are further apart, and the last and the first are as far
+-- no two positions are further apart than the last and the first
 pub span-greatest : {l : ℕ} (ps : List ℕ) → Ascending l 0 ps → (i j : ℕ) → i < length ps → j < length ps → getD ps j 0 - getD ps i 0 ≤ span ps
 span-greatest ps asc i j h k =
-    omega (arith, span-ends ps, ascends-on asc 0 i (omega arith) h, ascends-on asc j (length ps - 1) (omega arith) (omega arith))
-
-pub span-reached : (ps : List ℕ) → getD ps (length ps - 1) 0 - getD ps 0 0 ≡ span ps
-span-reached ps = sym (span-ends ps)
+    omega (arith, span-ends ps, ascending-on asc 0 i (omega arith) h, ascending-on asc j (length ps - 1) (omega arith) (omega arith))
 
 -- ---- the calls ----
-
-at-place : {A : Type 0} (xs : List A) (d : A) (i : ℕ) → i < length xs → In (getD xs i d) xs
-at-place [] d i h = absurd (omega arith)
-at-place (x ∷ xs) d zero h = here refl
-at-place (x ∷ xs) d (suc i) h = there (at-place xs d i (omega arith))
-
-sorted-at : {A : Type 0} {R : A → A → Bool} {xs : List A} (d : A) → Sorted R xs → (i j : ℕ) → i < j → j < length xs → R (getD xs i d) (getD xs j d) ≡ true
-sorted-at d empty i j h k = absurd (omega arith)
-sorted-at d (first m s) i zero h k = absurd (omega arith)
-sorted-at d (first {xs = xs} m s) zero (suc j) h k = m (getD xs j d) (at-place xs d j (omega arith))
-sorted-at d (first m s) (suc i) (suc j) h k = sorted-at d s i j (omega arith) (omega arith)
-
-sorted-take : {A : Type 0} {R : A → A → Bool} {xs : List A} (n : ℕ) → Sorted R xs → Sorted R (take n xs)
-sorted-take zero s = empty
-sorted-take (suc n) empty = empty
-sorted-take (suc n) (first {xs = xs} m s) = first (λ y i. m y (taken n xs i)) (sorted-take n s)
-  where
-    taken : {A : Type 0} (n : ℕ) (xs : List A) {y : A} → In y (take n xs) → In y xs
-    taken zero xs i = elim i [ ]
-    taken (suc n) [] i = i
-    taken (suc n) (x ∷ xs) (here e) = here e
-    taken (suc n) (x ∷ xs) (there i) = there (taken n xs i)
 
 -- an accepted packet, initial and final value, range, field and limit
 module _ (c : Crc) (k : Check) (limit : ℕ) (s : List ℕ) (supposed : Supposed c k limit s) where

@@ -70,10 +70,11 @@ module _ (power : ℕ → ℕ) (l most u : ℕ) where
         (λ b m. (record { ascends = m .0 .ascends; enough = omega arith; within = omega (arith, m .0 .counts); sums = m .0 .sums }, m .1)) behind-split
         (λ b c m n. fewer-before b c (omega (arith, m .0 .counts, n .enough))) e
 
-    pub behind-miss : ((x : List ℕ) → Level x → ⊥) → (r : Bool) (x : List ℕ) → Finds before (Among power l (k + 1) most u) r x → Finds before All r x
-    behind-miss none r x =
+    pub behind-miss : ((x : List ℕ) → Level x → ⊥) → (above : ℕ) → above ≡ k + 1 → (r : Bool) (x : List ℕ) → Finds before (Among power l above most u) r x → Finds before All r x
+    behind-miss none above e r x f =
         finds-in-second before All Level (Among power l (k + 1) most u) r x
         (λ b m. (record { ascends = m .ascends; enough = omega arith; within = m .within; sums = m .sums }, fewer-before q b (omega (arith, m .enough)))) behind-split none
+        (rw e at f)
 
 -- ---- a count found, of a slice whose front was lent ----
 

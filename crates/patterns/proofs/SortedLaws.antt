@@ -5,14 +5,14 @@ use mathlib.Core.Path.{_≡_, refl, sym, ap, _∙_}
 use mathlib.Core.Bool.{Bool, true, false, true≢false}
 use mathlib.Core.Logic.{_⊎_, inl, inr, ⊎-elim}
 use mathlib.Core.List.{List, [], _∷_, _++_, map}
-use Prim.Native.Nat.{ℕ, suc, _≤_}
+use Prim.Native.Nat.{ℕ, zero, suc, _<_, _≤_}
 use native.Mathlib.Omega.{arith}
-use lib.ListN.{length}
+use lib.ListN.{length, getD, take}
 use Rattle.base.specs.Lists.{In, here, there}
 use Rattle.base.proofs.Cases.{by-test}
 use Rattle.patterns.specs.Listing.{sift, inserted, inOrder}
 use Rattle.patterns.specs.StrictOrder.{Sorted, empty, first, Trichotomy, precedes, equals, succeeds, StrictTotal}
-use Rattle.base.proofs.ListLaws.{in-nothing}
+use Rattle.base.proofs.ListLaws.{in-nothing, at-place}
 use Rattle.patterns.proofs.MemberLaws.{in-left, in-right, in-either, map-in}
 use Rattle.patterns.proofs.SiftLaws.{sift-skip, sift-in, sift-all, sift-none, sift-append}
 
@@ -55,6 +55,24 @@ module _ {A : Type 0} {R : A → A → Bool} where
   sorted-sift P empty = empty
   sorted-sift P (first {x = x} {xs = xs} h s) =
       by-test (P x) (λ u. rw u (first (λ y i. h y (sift-in P xs i .0)) (sorted-sift P s))) (λ u. rw u (sorted-sift P s))
+
+  -- the first ones, and two by their places
+  pub sorted-take : (n : ℕ) {xs : List A} → Sorted R xs → Sorted R (take n xs)
+  sorted-take zero s = empty
+  sorted-take (suc n) empty = empty
+  sorted-take (suc n) (first {xs = xs} h s) = first (λ y i. h y (taken n xs i)) (sorted-take n s)
+    where
+      taken : (n : ℕ) (xs : List A) {y : A} → In y (take n xs) → In y xs
+      taken zero xs i = absurd (in-nothing i)
+      taken (suc n) [] i = i
+      taken (suc n) (x ∷ xs) (here e) = here e
+      taken (suc n) (x ∷ xs) (there i) = there (taken n xs i)
+
+  pub sorted-at : (d : A) {xs : List A} → Sorted R xs → (i j : ℕ) → i < j → j < length xs → R (getD xs i d) (getD xs j d) ≡ true
+  sorted-at d empty i j h k = absurd (omega arith)
+  sorted-at d (first m s) i zero h k = absurd (omega arith)
+  sorted-at d (first {xs = xs} m s) zero (suc j) h k = m (getD xs j d) (at-place xs d j (omega arith))
+  sorted-at d (first m s) (suc i) (suc j) h k = sorted-at d s i j (omega arith) (omega arith)
 
 module _ {A : Type 0} {R : A → A → Bool} (order : StrictTotal R) where
   pub never-both : (a b : A) → R a b ≡ true → R b a ≡ true → ⊥

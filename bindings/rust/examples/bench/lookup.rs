@@ -5,8 +5,9 @@
 //! The method is taken at its best, but for parity, which the paper does not use (`counts_by_parity`). A row of its
 //! table is two 16-bit numbers. Forced positions move on by one step from the set before, where the paper's algorithm 3
 //! walks from bit 0 again for each set. The bound of algorithm 2 is mended (as printed it lets the last position be the
-//! packet's length), and counts are taken from the smallest up, so that the patterns come in the library's order. Its
-//! tables are trusted, not verified.
+//! packet's length), and counts are taken from the smallest up. Patterns of one count come by their positions, the lowest
+//! first: the method spends no time on the library's order, which has the narrow ones first. Its tables are trusted, not
+//! verified.
 
 use rangqoda::MOST_POSITIONS;
 use std::ops::Range;
@@ -193,7 +194,7 @@ pub enum Summing {
     Nothing,
 }
 
-/// What a repair finds: how many patterns pass (none for an intact packet), and the first of them.
+/// What a repair finds: how many patterns pass (none for an intact packet), and the first of them in the method's order.
 #[derive(Clone, Copy, Debug, PartialEq)]
 pub struct Found {
     pub intact: bool,
@@ -236,27 +237,43 @@ impl Reader {
         output: &mut [u8],
         summing: Summing,
     ) -> Found {
-        let syndrome = self.crc.remainder(packet);
-        let sent = total(&packet[range.clone()]);
         let mut found = Found { intact: false, passing: 0, count: 0, positions: [0; MOST_POSITIONS] };
-        let held = [packet[field], packet[field + 1]];
-        if syndrome == 0 && (summing == Summing::Nothing || held == [0, 0] || passes(sent)) {
-            found.intact = true;
-            return found;
-        }
-        let last = packet.len() - 1;
-        let mut copy = [0; 512];
-        let copy = &mut copy[..packet.len()];
-        copy.copy_from_slice(packet);
-        let mut note = |positions: &[u16]| {
+        found.intact = self.passing(range, field, limit, packet, summing, &mut |positions| {
             if found.passing == 0 {
                 found.count = positions.len();
                 found.positions[..positions.len()].copy_from_slice(positions);
             }
             found.passing += 1;
-        };
+        });
+        if found.passing == 1 {
+            output.copy_from_slice(packet);
+            flip(output, &found.positions[..found.count]);
+        }
+        found
+    }
+
+    /// Whether the packet is intact. If it is not, every pattern that passes is noted.
+    pub fn passing(
+        &self,
+        range: Range<usize>,
+        field: usize,
+        limit: usize,
+        packet: &[u8],
+        summing: Summing,
+        note: &mut impl FnMut(&[u16]),
+    ) -> bool {
+        let syndrome = self.crc.remainder(packet);
+        let sent = total(&packet[range.clone()]);
+        let held = [packet[field], packet[field + 1]];
+        if syndrome == 0 && (summing == Summing::Nothing || held == [0, 0] || passes(sent)) {
+            return true;
+        }
+        let last = packet.len() - 1;
+        let mut copy = [0; 512];
+        let copy = &mut copy[..packet.len()];
+        copy.copy_from_slice(packet);
         match summing {
-            Summing::Nothing => self.lookup.patterns(syndrome.into(), 8 * packet.len(), 0..=limit, &mut note),
+            Summing::Nothing => self.lookup.patterns(syndrome.into(), 8 * packet.len(), 0..=limit, note),
             Summing::Anew => self.lookup.patterns(syndrome.into(), 8 * packet.len(), 0..=limit, &mut |positions| {
                 flip(copy, positions);
                 if copy[field..field + 2] == [0, 0] || passes(total(&copy[range.clone()])) {
@@ -284,10 +301,6 @@ impl Reader {
                 })
             }
         }
-        if found.passing == 1 {
-            output.copy_from_slice(packet);
-            flip(output, &found.positions[..found.count]);
-        }
-        found
+        false
     }
 }

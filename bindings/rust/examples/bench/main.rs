@@ -1,13 +1,14 @@
 //! How fast the library is, beside the lookup-table method that a reader would use otherwise (`lookup.rs`) and a
-//! table-driven CRC: `cargo run --release --example bench`. Every result is compared before its time is told. All
-//! numbers are of one run; a ratio above 1 says that the library is faster.
+//! table-driven CRC: `cargo run --release --example bench`. Every result is compared before its time is told. For the
+//! comparison the method's patterns are put in the library's order, outside all times. All numbers are of one run; a ratio
+//! above 1 says that the library is faster.
 
 mod lookup;
 
 use lookup::{Found, Lookup, Reader, Summing, TableCrc};
 use rangqoda::{
-    catalogue::CRC_16_XMODEM as CRC, remainder, seal, stamp, Mark, Pattern, Tables, Verdict, CCITT, FIVE, NO_CHECKSUM,
-    RECORD_BYTES,
+    catalogue::CRC_16_XMODEM as CRC, remainder, seal, stamp, Mark, Page, Pattern, Tables, Verdict, CCITT, FIVE,
+    NO_CHECKSUM, RECORD_BYTES,
 };
 use std::arch::asm;
 use std::ops::Range;
@@ -122,6 +123,11 @@ fn write_list(
     used
 }
 
+/// The patterns of so many records in so many bytes.
+fn read_list(output: &[u8], used: usize, written: usize) -> Vec<Pattern> {
+    Page { used, written: written as u64, next: Mark::Ended }.patterns(output).collect()
+}
+
 /// The whole list, in one page and in pages of 64 KiB, beside the method's.
 fn lists(random: &mut Random, tables: &Tables, lookup: &Lookup, verifying: Duration) {
     println!("The whole list, as records (CCITT), by the syndrome's number of ones. Milliseconds.");
@@ -170,13 +176,15 @@ fn lists(random: &mut Random, tables: &Tables, lookup: &Lookup, verifying: Durat
             state.used[3] = write_list(lookup, syndrome, length, counts, &mut state.output);
         };
 
-        // the same records, byte for byte
+        // the same records, once the method's are in the library's order
         one_page(&mut state);
-        let records = state.output.clone();
-        for other in [&mut method as &mut dyn FnMut(&mut State), &mut by_parity] {
+        let listed = read_list(&state.output, state.used[0], patterns);
+        for (other, way) in [(&mut method as &mut dyn FnMut(&mut State), 2), (&mut by_parity, 3)] {
             clear(&mut state);
             other(&mut state);
-            assert!(state.output == records, "the lists differ");
+            let mut found = read_list(&state.output, state.used[way], patterns);
+            found.sort_unstable();
+            assert!(found == listed, "the lists differ");
         }
 
         let times = race(rounds, &mut state, clear, &mut [&mut one_page, &mut pages, &mut method, &mut by_parity]);
@@ -205,7 +213,7 @@ fn resumed(random: &mut Random, tables: &Tables, lookup: &Lookup, verifying: Dur
         let mark = Pattern::new(mark).unwrap();
         let after = Mark::After(mark);
 
-        // the first of the method's patterns that follows the mark, if there is one
+        // the first of the method's patterns that follows the mark in the library's order, if there is one
         let mut next = None;
         lookup.patterns(syndrome as u32, 1024, 0..=4, &mut |positions| {
             let pattern = Pattern::new(positions).unwrap();
@@ -249,13 +257,12 @@ fn damaged(random: &mut Random, packets: usize, len: usize, flips: usize) -> Vec
         .collect()
 }
 
-/// The library's verdict in the method's terms.
-fn same(verdict: Verdict, found: Found) -> bool {
-    let first = &found.positions[..found.count];
+/// The library's verdict in the method's terms. Of the method's patterns that pass, `earliest` comes first in the library's order.
+fn same(verdict: Verdict, found: Found, earliest: Option<Pattern>) -> bool {
     match verdict {
         Verdict::Intact => found.intact,
-        Verdict::Repaired(pattern) => found.passing == 1 && pattern.as_slice() == first,
-        Verdict::Several { count, pattern } => found.passing == count && pattern.as_slice() == first,
+        Verdict::Repaired(pattern) => found.passing == 1 && earliest == Some(pattern),
+        Verdict::Several { count, pattern } => found.passing == count && earliest == Some(pattern),
         Verdict::None => !found.intact && found.passing == 0,
     }
 }
@@ -300,8 +307,11 @@ fn compare_repairs(
 ) {
     let (mut copy, mut other) = (vec![0; packet.len()], vec![0; packet.len()]);
     let verdict = tables.repair(CRC, range.clone(), field, limit, packet, &mut copy).unwrap();
-    let found = reader.repair(range, field, limit, packet, &mut other, summing);
-    assert!(same(verdict, found) && copy == other, "{verdict:?} {found:?}");
+    let found = reader.repair(range.clone(), field, limit, packet, &mut other, summing);
+    let mut passing = Vec::new();
+    reader.passing(range, field, limit, packet, summing, &mut |positions| passing.extend(Pattern::new(positions)));
+    let earliest = passing.into_iter().min();
+    assert!(same(verdict, found, earliest) && copy == other, "{verdict:?} {found:?} {earliest:?}");
 }
 
 fn repairs(random: &mut Random, tables: &Tables, reader: &Reader, verifying: Duration) {

@@ -54,17 +54,54 @@ fn patterns_of_every_count() {
     assert_eq!(format!("{:?} {:?}", Pattern::EMPTY, Pattern::new(&[3, 8]).unwrap()), "{} {3, 8}");
 }
 
+/// Every set of at most four of these positions.
+fn sets_of(positions: &[u16]) -> Vec<Vec<u16>> {
+    let mut sets = Vec::new();
+    reference::every_set(positions.len() as u16, MOST_POSITIONS, &mut |set| {
+        sets.push(set.iter().map(|&place| positions[usize::from(place)]).collect());
+    });
+    sets
+}
+
+/// Every two sets of the lowest positions and of those at the edges of their two bytes.
 #[test]
 fn patterns_compare_as_the_list_orders_them() {
-    let mut random = Random::new(81);
-    for _ in 0..100_000 {
-        let [a, b] = [(); 2].map(|_| {
-            let count = random.within(0, MOST_POSITIONS);
-            random.positions(count, 6)
-        });
-        let [first, second] = [&a, &b].map(|positions| Pattern::new(positions).unwrap());
-        assert_eq!(first.cmp(&second), reference::order(&a, &b), "{a:?} {b:?}");
-        assert_eq!(first == second, a == b);
+    let mut sets = sets_of(&[0, 1, 2, 3, 4, 5, 6, 7, 8]);
+    sets.extend(sets_of(&[0, 1, 255, 256, 4095, 4096, 65534, 65535]));
+    for a in &sets {
+        let first = Pattern::new(a).unwrap();
+        assert_eq!(first.span(), reference::span(a), "{a:?}");
+        for b in &sets {
+            let second = Pattern::new(b).unwrap();
+            assert_eq!(first.cmp(&second), reference::order(a, b), "{a:?} {b:?}");
+            assert_eq!(first.partial_cmp(&second), Some(first.cmp(&second)));
+            assert_eq!(first == second, a == b);
+        }
+    }
+}
+
+/// Every row of so many positions below `bound`, ascending or not.
+fn rows_of(count: usize, bound: u16) -> impl Iterator<Item = Vec<u16>> {
+    let places = move |number| (0..count as u32).map(move |place| number / bound.pow(place) % bound);
+    (0..bound.pow(count as u32)).map(move |number| places(number).collect())
+}
+
+/// Positions that do not ascend, which no list has: the last minus the first is their span, and 0 where the last is lower.
+#[test]
+fn patterns_that_do_not_ascend_are_ordered_too() {
+    let rows: Vec<Vec<u16>> = (0..=MOST_POSITIONS).flat_map(|count| rows_of(count, 4)).collect();
+    let span = |row: &[u16]| match row {
+        [first, .., last] if first < last => last - first,
+        _ => 0,
+    };
+    for a in &rows {
+        let first = Pattern::new(a).unwrap();
+        assert_eq!(first.span(), span(a), "{a:?}");
+        for b in &rows {
+            let second = Pattern::new(b).unwrap();
+            assert_eq!(first.cmp(&second), (a.len(), span(a), a).cmp(&(b.len(), span(b), b)), "{a:?} {b:?}");
+            assert_eq!(first == second, a == b);
+        }
     }
 }
 

@@ -30,7 +30,8 @@ fn expected_page(call: &PageCall<'_>, before: &PageLent) -> (u32, PageLent) {
     }
 }
 
-fn compare_page(call: &PageCall<'_>, before: &PageLent) -> u32 {
+/// Compares a page and gives what was found.
+fn compared_page(call: &PageCall<'_>, before: &PageLent) -> (u32, PageLent) {
     let expected = expected_page(call, before);
     let found = common::page(call, before);
     assert!(
@@ -45,7 +46,47 @@ fn compare_page(call: &PageCall<'_>, before: &PageLent) -> u32 {
         found,
         expected
     );
-    found.0
+    found
+}
+
+fn compare_page(call: &PageCall<'_>, before: &PageLent) -> u32 {
+    compared_page(call, before).0
+}
+
+/// Start, Ended, and After each pattern that fits, listed or not.
+fn every_fit_mark(length: usize, limit: usize) -> Vec<Mark> {
+    let mut marks = vec![Mark::Start, Mark::Ended];
+    reference::every_set(length as u16, limit, &mut |pattern| marks.push(Mark::After(pattern.to_vec())));
+    marks
+}
+
+/// Compares a page from each of the marks, all of them fit. Each output has the length that `len` gives.
+fn compare_pages<'a>(settings: &Settings, marks: impl IntoIterator<Item = &'a Mark>, mut len: impl FnMut() -> usize) {
+    for mark in marks {
+        let lent = PageLent::new(reference::mark_bytes(mark), vec![0xCC; len()]);
+        assert_eq!(compare_page(&settings.call(), &lent), 0);
+    }
+}
+
+/// Compares the pages of so many bytes from the start to the end, and holds their records, joined, to the list's.
+fn compare_joined(settings: &Settings, len: usize) {
+    let list = reference::list(settings.generator, settings.length, settings.limit, settings.syndrome);
+    let whole: Vec<u8> = list.iter().flat_map(|pattern| reference::record(pattern)).collect();
+    let mut mark = reference::mark_bytes(&Mark::Start);
+    let mut joined: Vec<u8> = Vec::new();
+    while mark != reference::mark_bytes(&Mark::Ended) {
+        let (number, after) = compared_page(&settings.call(), &PageLent::new(mark, vec![0xCC; len]));
+        assert_eq!(number, 0);
+        joined.extend(&after.output[..after.used]);
+        mark = after.mark;
+    }
+    assert_eq!(joined, whole);
+}
+
+/// Whether the list would stand in another order if spans did not count.
+fn spans_matter(settings: &Settings) -> bool {
+    let list = reference::list(settings.generator, settings.length, settings.limit, settings.syndrome);
+    list.windows(2).any(|two| two[0].len() == two[1].len() && two[0] > two[1])
 }
 
 #[test]
@@ -129,8 +170,8 @@ fn page_from_every_mark_of_a_short_length() {
     }
 }
 
-/// Every accepted generator of degree 3 to 6 and every syndrome, 0 too: a page from the start and after each pattern, listed or not.
-/// Where the generator has an even number of ones, half of the calls after a pattern have one of a count that parity rules out.
+/// Every accepted generator of degree 3 to 6 and every syndrome, 0 too: a page from every mark that fits. Where the generator has an
+/// even number of ones, half of the calls after a pattern have one of a count that parity rules out.
 #[test]
 fn page_from_every_mark_for_every_syndrome() {
     let mut random = Random::new(22);
@@ -140,8 +181,7 @@ fn page_from_every_mark_for_every_syndrome() {
         let length = n + 2;
         let tables = reference::tables_of(generator);
         let list = |syndrome| reference::list(generator, length, MOST_POSITIONS, syndrome).to_vec();
-        let mut marks: Vec<Mark> = (0..1 << n).flat_map(list).map(Mark::After).collect();
-        marks.push(Mark::Start);
+        let marks = every_fit_mark(length, MOST_POSITIONS);
         for syndrome in 0..1 << n {
             let odd = list(syndrome).iter().filter(|pattern| pattern.len() % 2 == 1).count();
             let even = list(syndrome).len() - odd;
@@ -152,14 +192,78 @@ fn page_from_every_mark_for_every_syndrome() {
                 of_both += 1;
             }
             let settings = Settings { generator, length, limit: MOST_POSITIONS, syndrome, tables: tables.clone() };
-            for mark in &marks {
-                let len = random.within(RECORD_BYTES, 60);
-                let lent = PageLent::new(reference::mark_bytes(mark), random.bytes(len));
-                assert_eq!(compare_page(&settings.call(), &lent), 0);
-            }
+            compare_pages(&settings, &marks, || random.within(RECORD_BYTES, 60));
         }
     }
     assert!(of_one_parity > 1_000 && of_both > 1_000, "{of_one_parity} {of_both}");
+}
+
+/// Generators with an even and with an odd number of ones, of periods from 3 to 15. Every length from the least to two past the period,
+/// every limit and every syndrome: a page from every mark that fits.
+#[test]
+fn page_from_every_mark_across_the_period() {
+    let mut random = Random::new(30);
+    let (mut pages, mut by_span) = (0, 0);
+    for generator in [9, 15, 0x17, 53, 0x55, 11, 13, 0x1F, 25, 0x49] {
+        let n = reference::degree(generator);
+        let tables = reference::tables_of(generator);
+        for length in n + 1..=n.max(tables.period as usize) + 2 {
+            for limit in 1..=MOST_POSITIONS {
+                let marks = every_fit_mark(length, limit);
+                for syndrome in 0..1 << n {
+                    let settings = Settings { generator, length, limit, syndrome, tables: tables.clone() };
+                    compare_pages(&settings, &marks, || random.within(RECORD_BYTES, 60));
+                    pages += marks.len();
+                    by_span += usize::from(spans_matter(&settings));
+                }
+            }
+        }
+    }
+    assert!(pages > 1_000_000 && by_span > 2_000, "{pages} {by_span}");
+}
+
+/// Every output of 9 to 40 bytes and every syndrome: a page from every mark that fits, and all pages from the start, joined.
+#[test]
+fn pages_of_every_size() {
+    let mut by_span = 0;
+    for (generator, length, limit) in [(13, 8, MOST_POSITIONS), (0x17, 9, 3), (53, 8, 3), (53, 10, 2), (25, 17, 2)] {
+        let tables = reference::tables_of(generator);
+        let marks = every_fit_mark(length, limit);
+        for syndrome in 0..1 << reference::degree(generator) {
+            let settings = Settings { generator, length, limit, syndrome, tables: tables.clone() };
+            by_span += usize::from(spans_matter(&settings));
+            for len in RECORD_BYTES..=40 {
+                compare_pages(&settings, &marks, || len);
+                compare_joined(&settings, len);
+            }
+        }
+    }
+    assert!(by_span > 50, "{by_span}");
+}
+
+/// Four positions in up to 24 bits, by generators of degree 5 and 6 with an even and with an odd number of ones: some marks for every
+/// length and syndrome, every mark for one syndrome of 24 bits, and the pages of each syndrome of 24 bits, joined.
+#[test]
+fn page_of_four_positions_in_24_bits() {
+    let mut random = Random::new(31);
+    for generator in [53, 61, 0x47] {
+        let n = reference::degree(generator);
+        let tables = reference::tables_of(generator);
+        let settings = |length, syndrome| Settings { generator, length, limit: 4, syndrome, tables: tables.clone() };
+        for length in 18..=24 {
+            let marks = every_fit_mark(length, 4);
+            for syndrome in 0..1 << n {
+                let some: Vec<Mark> = (0..100).map(|_| random.pick(&marks)).collect();
+                compare_pages(&settings(length, syndrome), &some, || random.within(RECORD_BYTES, 300));
+            }
+        }
+        let syndrome = random.below(1 << n);
+        compare_pages(&settings(24, syndrome), &every_fit_mark(24, 4), || random.within(RECORD_BYTES, 60));
+        for syndrome in 0..1 << n {
+            assert!(spans_matter(&settings(24, syndrome)));
+            compare_joined(&settings(24, syndrome), random.within(RECORD_BYTES, 300));
+        }
+    }
 }
 
 /// A sequence of page calls: one list, one mark that only accepted calls move, tables and outputs that differ from call to

@@ -339,9 +339,16 @@ pub fn tables(generator: u64, step: &mut [u16], first: &mut [u16]) -> Answer<u64
 
 // ---- the list and its pages
 
-/// The list's order: fewer positions first, then by the positions from the smallest on.
+/// The largest position minus the smallest, and 0 for one position or none.
+pub fn span(pattern: &[u16]) -> u16 {
+    let largest = pattern.iter().max().unwrap_or(&0);
+    let smallest = pattern.iter().min().unwrap_or(&0);
+    largest - smallest
+}
+
+/// The list's order: fewer positions first, then the smaller span, then by the positions from the smallest on, the lower first.
 pub fn order(a: &[u16], b: &[u16]) -> Ordering {
-    (a.len(), a).cmp(&(b.len(), b))
+    (a.len(), span(a), a).cmp(&(b.len(), span(b), b))
 }
 
 /// Every set of at most `most` positions below `length`, in no order that matters.

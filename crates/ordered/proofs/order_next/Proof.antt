@@ -3,6 +3,7 @@ use mathlib.Core.Path.{sym}
 use mathlib.Core.List.{List}
 use Prim.Native.Nat.{ℕ, _-_}
 use borrow.Author.Needs.{needs}
+use native.Mathlib.Omega.{arith}
 use lib.ListN.{length, take}
 use lib.Seq.{length-take-le, length-front}
 use Rattle.patterns.specs.Order.{before}
@@ -48,7 +49,7 @@ returns-2 c =
       rw w at (m .ensures .0),
       λ power t.
           let none : (y : List ℕ) → Behind (Summing power l (s .args .count) 0 (s .args .syndrome)) q y → ⊥ = rw (c .before .before .before .before .if1 .left, e) at (p .ensures power t) in
-          found-by (behind-miss power l n (s .args .syndrome) q (s .args .count) e (s .pre .1) none) (m .result) (m .last .1 .1 .1 .1 .1 .1 .0) (rw w at (m .ensures .1 power t)),
+          found-by (behind-miss power l n (s .args .syndrome) q (s .args .count) e (s .pre .1) none _ (omega arith)) (m .result) (m .last .1 .1 .1 .1 .1 .1 .0) (rw w at (m .ensures .1 power t)),
     )
 
 pub order-next-spec : {M : Type 1} → statement M

@@ -48,8 +48,7 @@ place-requires c κs =
     let s = c .before .before .before .before .before .before .before .before .before in
     let a = c .before .before .before .before .before .loop .a in
     let h : a + s .args .span ≤ length (s .args .pow .now) = omega arith in
-    let k : a + 1 ≤ a + s .args .span = omega arith in
-    ready-front (ready-left (s .pre .0) a (a + s .args .span) (omega arith) (omega arith) (omega arith)) (a + s .args .span) h k
+    ready-front (ready-left (s .pre .0) a (a + s .args .span) (omega arith) (omega arith) (omega arith)) (a + s .args .span) h (omega arith)
 
 slice-write-pos-2 : tie.Need-slice-write-pos-2 Inv-loop μ-loop
 slice-write-pos-2 c =
