@@ -46,10 +46,10 @@
  *   span       Of a pattern: its largest position minus its smallest, and 0
  *              for one position or none.
  *   list       All patterns with a given syndrome, below L and with at most N
- *              positions. Small patterns stand before large ones. Those of one
- *              size go by their span, the narrower first. Those of one size
- *              and span go by their smallest positions, the lower first, then
- *              by the next smallest, and so on.
+ *              positions. Patterns of fewer positions stand first. Those of
+ *              as many go by their span, the narrower first. Those of as many
+ *              and of one span go by their smallest positions, the lower
+ *              first, then by the next smallest, and so on.
  *   sum        RFC 1071's: bytes as 16-bit numbers, high byte first, with a
  *              zero behind an odd one, and carries added back in. There is no
  *              pseudo-header. The sum of nothing is 0.
@@ -217,18 +217,19 @@
  * How long it takes
  *
  * Each page and each repair verifies both tables: 0.05 ms for degree 16, and
- * half as long with each degree less. Beyond that a repair, or a whole list,
- * takes time as L^(N-1), and with the length of the list, about L^N/(N! 2^n):
- * at small degrees and N of 3 or 4 that can be hours. In orders of magnitude,
- * with RANGQODA_CCITT:
+ * half as long with each degree less. Beyond that a repair takes time as
+ * L^(N-1), and with the length of the list, about L^N/(N! 2^n): at small degrees
+ * and N of 3 or 4 that can be hours. In orders of magnitude, with
+ * RANGQODA_CCITT:
  *
  *               N = 1     N = 2     N = 3     N = 4
  *    16 bytes   0.1 ms    0.1 ms    0.1 ms    0.5 ms
  *    64 bytes   0.1 ms    0.1 ms    0.3 ms    0.03 s
  *   512 bytes   0.1 ms    0.1 ms    0.03 s    30 s
  *
- * A whole list at N = 2 takes 1 ms for 512 bytes, and a repair does not: the
- * list has narrow pairs first, and they are looked for span by span.
+ * A whole list takes as long, but at N = 2, where the list has narrow pairs
+ * first: it makes a pass over the packet for each span that some pair has, and
+ * takes 1 ms for 512 bytes.
  *
  * With a generator that has an even number of ones, as RANGQODA_CCITT, an even
  * number of flipped bits leaves a remainder with an even number of ones, and an

@@ -182,8 +182,8 @@ def every_mark_for_every_syndrome():
 
 
 def marks_of_every_span():
-    """Lists across the period and past it, from marks that are not listed: of a smaller span than those of their count that follow, of
-    the same, and of the largest. Up to 24 bits with four positions."""
+    """Lists across the period and past it, from marks that for most syndromes are not listed: of a smaller span than those of their count
+    that follow, of the same, and of the largest. Up to 24 bits with four positions."""
     for generator, lengths in ((11, (7, 8, 15)), (15, (4, 5, 9)), (FIVE, (15, 16, 24)), (73, (9, 10, 22))):
         group = Group(generator)
         for bits in lengths:

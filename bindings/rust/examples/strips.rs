@@ -1,7 +1,7 @@
 //! Draws the first patterns of a list as strips: `cargo run --example strips`.
 //!
-//! A packet is damaged in three bits that stand close together. Every set of at most three bit errors that explains its
-//! remainder is a candidate. The list has the narrow ones first, so damage from a short burst stands near its top.
+//! A packet is damaged in three bits. Every set of at most three bit errors that explains its remainder is in the list. Sets
+//! of fewer positions come first there, and of as many positions the narrow ones.
 //!
 //! A strip has a character for each bit of the packet, with position 0 at the right: `#` for a position of the pattern, `.` for
 //! any other. Beside it stand the pattern's span and its positions.
@@ -33,7 +33,7 @@ fn run() -> Result<(), Refusal> {
     let listed = tables.patterns(length, LIMIT, syndrome)?.count();
     let mut output = [0; PAGE_BYTES];
     let page = tables.page(length, LIMIT, syndrome, Mark::Start, &mut output)?;
-    println!("{} of {listed} patterns, the narrow ones first", page.written);
+    println!("{} of {listed} patterns, of as many positions the narrow ones first", page.written);
     for pattern in page.patterns(&output) {
         println!("{}  span {:>2}  {pattern:?}", strip(&pattern, length), pattern.span());
     }

@@ -24,8 +24,8 @@
 //! - A *pattern* is a set of at most four positions: bits that may have flipped. Its *span* is its largest position minus
 //!   its smallest, and 0 for one position or none.
 //! - The *list* for a generator, L, a limit N and a syndrome has all patterns below L with that syndrome and at most N
-//!   positions. Small patterns stand before large ones. Those of one size go by their span, the narrower first. Those of
-//!   one size and span go by their smallest positions, the lower first, then by the next smallest, and so on.
+//!   positions. Patterns of fewer positions stand first. Those of as many go by their span, the narrower first. Those of
+//!   as many and of one span go by their smallest positions, the lower first, then by the next smallest, and so on.
 //! - A *range* `start..end` of packet bytes is accepted where start ≤ end and 8 end ≤ L - n. Its *field* is the two bytes that hold the
 //!   checksum, named by the first: both in the range, the first an even number of bytes from its start.
 //! - The *second check* is by range and field. Where start < end, a packet passes it if its field is 0000h, which says that no checksum
@@ -81,8 +81,8 @@
 //!
 //! Each page and each repair verifies both tables, 0.05 ms for degree 16. Beyond that a repair takes time as L^(N-1): with
 //! [`CCITT`] about 0.1 ms at N of 1 and 2; at N = 3 0.3 ms for 64 bytes and 0.03 s for 512; at N = 4 0.03 s for 64 bytes and
-//! 30 s for 512. A whole list at N = 2 takes 1 ms for 512 bytes, since narrow pairs come first and are looked for span by
-//! span. Time also grows with the length of the list, about L^N/(N! 2^n): at small degrees and N of 3 or 4 it can take
+//! 30 s for 512. A whole list takes as long, but at N = 2, where it has narrow pairs first: it makes a pass over the packet
+//! for each span that some pair has, and takes 1 ms for 512 bytes. Time also grows with the length of the list, about L^N/(N! 2^n): at small degrees and N of 3 or 4 it can take
 //! hours. With a generator that has an even number of ones, as [`CCITT`], an even number of flipped bits leaves a
 //! remainder with an even number of ones, and an odd number of them one with an odd number, if the packet sent passes
 //! the CRC. Numbers of flips that this rules out are not tried. If N is even and the remainder has an odd number of

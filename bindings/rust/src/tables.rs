@@ -187,7 +187,7 @@ impl Tables {
         repair(crc, range, field, limit, self.as_slices(), packet, output)
     }
 
-    /// Every pattern of a list, in its order: of one size the narrower come first. Refused by 2, 3, 4.
+    /// Every pattern of a list, in its order: of as many positions the narrower come first. Refused by 2, 3, 4.
     ///
     /// ```
     /// use rangqoda::{Tables, FIVE};

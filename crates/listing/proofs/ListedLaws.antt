@@ -28,10 +28,10 @@ use Rattle.cursor.proofs.LookupLaws.{syndrome-sum}
 use Rattle.spans.specs.Spans.{Behind}
 use Rattle.ordered.specs.Ordered.{Among, FindsAt}
 
--- what stands first of the members of a list that ascends leads it
-leads : (xs : List (List ℕ)) {p : List ℕ} → Sorted before xs → Foremost before (λ q. In q xs) p → (rest : List (List ℕ)) × (xs ≡ p ∷ rest)
-leads [] s f = absurd (in-nothing (f .meets))
-leads (x ∷ xs) s f = (xs, ap (λ (y : List ℕ). y ∷ xs) (foremost-first before-strict-total s f))
+-- what stands first of the members of a list that ascends is its head
+heads : (xs : List (List ℕ)) {p : List ℕ} → Sorted before xs → Foremost before (λ q. In q xs) p → (rest : List (List ℕ)) × (xs ≡ p ∷ rest)
+heads [] s f = absurd (in-nothing (f .meets))
+heads (x ∷ xs) s f = (xs, ap (λ (y : List ℕ). y ∷ xs) (foremost-first before-strict-total s f))
 
 module _ (n g l m s : ℕ) where
   -- the list, from a mark on: what was found of a kind whose members are those that follow the mark
@@ -40,7 +40,7 @@ module _ (n g l m s : ℕ) where
   unfolding follows
   found-told mark P same (At k) pos h f =
       let p : List ℕ = take k pos in
-      let e = leads (remaining (listing n g l m s) mark) (sorted-sift (follows mark) (listing-sorted n g l m s)) (foremost-same same f) in
+      let e = heads (remaining (listing n g l m s) mark) (sorted-sift (follows mark) (listing-sorted n g l m s)) (foremost-same same f) in
       let behind = remaining-next (listing-sorted n g l m s) mark p (e .0) (e .1) in
       let listed = listed-iff n g l m s p .0 (sift-in (follows mark) (listing n g l m s) (same p .0 (f .meets)) .0) in
       (record { split = e .1 ∙ ap (λ (ys : List (List ℕ)). p ∷ ys) (sym behind); ascends = listed .0 }, h)

@@ -17,7 +17,7 @@ ghost use Rattle.cursor.specs.Cursors.{Prepared, InFront};
 ghost use Rattle.listing.specs.Listings.{listedBy, Marked};
 
 // The first listed pattern.
-fn lead(cursor: Cursor, pow: &[u32], first: &[u16], pos: &mut [u16]) -> Found
+fn first_listed(cursor: Cursor, pow: &[u32], first: &[u16], pos: &mut [u16]) -> Found
     requires { ⌜ Prepared cursor (now pow) (now first) ⌝ }
     ensures { λ r. ⌜ Told before (length (now (pow .entry))) (length (now (pos .entry))) (listedBy cursor (length (now (pow .entry))) (length (now (pos .entry)))) (listedBy cursor (length (now (pow .entry))) (length (now (pos .entry)))) r (now (pos .exit)) ⌝ }
 {
@@ -50,7 +50,7 @@ pub fn begin(cursor: Cursor, pow: &[u32], first: &[u16], mark: Mark, pos: &mut [
     ensures { λ r. ⌜ Told before (length (now (pow .entry))) (length (now (pos .entry))) (listedBy cursor (length (now (pow .entry))) (length (now (pos .entry)))) (remaining (listedBy cursor (length (now (pow .entry))) (length (now (pos .entry)))) (pointOf mark)) r (now (pos .exit)) ⌝ }
 {
     match mark {
-        Mark::Start => lead(cursor, pow, first, pos),
+        Mark::Start => first_listed(cursor, pow, first, pos),
         Mark::Ended => Found::Nothing,
         Mark::After(p) => go_on(cursor, pow, first, p, pos),
     }

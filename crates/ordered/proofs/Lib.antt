@@ -1,1 +1,1 @@
-pub mod ClimbLaws
+pub mod RiseLaws

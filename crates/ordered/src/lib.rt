@@ -46,8 +46,8 @@ fn next_or_skip(
     widening::next_of_count(pow, first, period, u, pos)
 }
 
-// Goes up through the counts from `count` to the length of `pos`.
-fn climb(
+// Rises through the counts from `count` to the length of `pos`.
+fn rise(
     generator: u64,
     pow: &[u32],
     first: &[u16],
@@ -83,7 +83,7 @@ pub fn order_first(
     ensures counted { λ r. ⌜ CountWithin (length (now (pos .entry))) r ⌝ }
     ensures first { λ r. ⌜ ((power : ℕ → ℕ) → Lookup power (now (pow .entry)) (now (first .entry)) period → FindsAt before (Among power (length (now (pow .entry))) 0 (length (now (pos .entry))) syndrome) r (now (pos .exit))) ⌝ }
 {
-    climb(
+    rise(
         generator,
         pow,
         first,
@@ -118,7 +118,7 @@ pub fn order_next(
     ) {
         return Found::At(count);
     }
-    climb(
+    rise(
         generator,
         pow,
         first,

@@ -1,5 +1,5 @@
 -- How two lists of positions compare, step by step as a loop goes; and their spans, by their ends.
-use mathlib.Core.Path.{_≡_, refl, sym}
+use mathlib.Core.Path.{_≡_, refl, sym, ap}
 use mathlib.Core.Bool.{true, false}
 use mathlib.Core.List.{List, [], _∷_}
 use Prim.Native.Nat.{ℕ, _+_, _-_, _<_, _≤_}
@@ -26,12 +26,12 @@ lower-end p q i h k = rw (drop-of-length-le p h, drop-of-length-le q k)
 
 -- ---- spans ----
 
-pub span-ends : (ps : List ℕ) → span ps ≡ getD ps (length ps - 1) 0 - getD ps 0 0
-unfolding span
-span-ends ps = refl
-
 pub span-few : (ps : List ℕ) → length ps < 2 → span ps ≡ 0
 unfolding span
 span-few [] h = refl
 span-few (p ∷ []) h = omega arith
 span-few (p ∷ q ∷ ps) h = absurd (omega arith)
+
+pub span-ends : (ps : List ℕ) → span ps ≡ getD ps (length ps - 1) 0 - getD ps 0 0
+unfolding span
+span-ends ps = ap (λ (i : ℕ). getD ps (length ps - 1) 0 - getD ps i 0) (omega arith)

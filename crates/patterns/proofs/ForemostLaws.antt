@@ -1,11 +1,11 @@
 -- What stands first, by an order, of all that meet something: for an equivalent something, and of the members of a list that ascends.
-use mathlib.Core.Path.{_≡_, refl, sym, ap, _∙_}
-use mathlib.Core.Bool.{Bool, true, true≢false}
+use mathlib.Core.Path.{_≡_, refl, sym}
+use mathlib.Core.Bool.{Bool}
 use mathlib.Core.Logic.{_↔_}
 use mathlib.Core.List.{List, _∷_}
 use Rattle.base.specs.Lists.{In, here, there}
 use Rattle.patterns.specs.StrictOrder.{Sorted, StrictTotal, Foremost}
-use Rattle.patterns.proofs.SortedLaws.{sorted-head, never-both}
+use Rattle.patterns.proofs.SortedLaws.{sorted-head, never-both, differs}
 
 module _ {A : Type 0} {R : A → A → Bool} where
   pub foremost-same : {P Q : A → Type 0} → ((b : A) → P b ↔ Q b) → {a : A} → Foremost R P a → Foremost R Q a
@@ -20,8 +20,5 @@ module _ {A : Type 0} {R : A → A → Bool} where
   foremost-first order {x} {p} sorted f =
       elim (f .meets) [
         | here d ↦ sym d
-        | there i ↦ let h = sorted-head sorted p i in absurd (never-both order x p h (f .othersAfter x (here refl) (apart h)))
+        | there i ↦ let h = sorted-head sorted p i in absurd (never-both order x p h (f .othersAfter x (here refl) (differs order h)))
       ]
-    where
-      apart : {a b : A} → R a b ≡ true → a ≡ b → ⊥
-      apart {b = b} h d = true≢false (sym h ∙ ap (λ (c : A). R c b) d ∙ order .irreflexive b)

@@ -27,7 +27,7 @@ module _ {A : Type 0} (key : A → ℕ) (R : A → A → Bool) where
   keyed-same a b h = simp (le-ltb (key a) (key b) (omega arith), eq-eqb _ _ h)
 
   -- what is first by the order has no greater number, and where the numbers are equal it is first by the other order
-  pub keyed-cases : {C : Type 0} (a b : A) → keyed key R a b ≡ true → (key a < key b → C) → (key a ≡ key b → R a b ≡ true → C) → C
+  keyed-cases : {C : Type 0} (a b : A) → keyed key R a b ≡ true → (key a < key b → C) → (key a ≡ key b → R a b ≡ true → C) → C
   keyed-cases a b t less same =
       by-order (key a) (key b) less
       (λ h.

@@ -78,6 +78,9 @@ module _ {A : Type 0} {R : A → A → Bool} (order : StrictTotal R) where
   pub never-both : (a b : A) → R a b ≡ true → R b a ≡ true → ⊥
   never-both a b h k = true≢false (sym (order .transitive a b a h k) ∙ order .irreflexive a)
 
+  pub differs : {a b : A} → R a b ≡ true → a ≡ b → ⊥
+  differs {b = b} h e = true≢false (sym h ∙ ap (λ (c : A). R c b) e ∙ order .irreflexive b)
+
   pub not-back : (a b : A) → R a b ≡ true → R b a ≡ false
   not-back a b h = by-test (R b a) (λ t. absurd (never-both a b h t)) (λ t. t)
 

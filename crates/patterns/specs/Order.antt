@@ -1,5 +1,5 @@
--- The order of patterns: small ones stand before large ones, those of one size go by their span, the narrower first, and those of one
--- size and span by their smallest positions, the lower first, then by the next smallest, and so on.
+-- The order of patterns: those of fewer positions stand first; of as many, those of the smaller span; and of as many and one span they go
+-- by their smallest positions, the lower first, then by the next smallest, and so on.
 use Prim.Native.Nat.{ℕ, _-_}
 use mathlib.Core.Bool.{Bool, true, false, _||_, _&&_}
 use mathlib.Core.List.{List, [], _∷_}

@@ -89,7 +89,7 @@ pub fn put_positions(p: Pattern, pos: &mut [u16])
     }
 }
 
-// The largest of ascending positions minus the smallest, and 0 for one or none. Of others too it is told.
+// The largest of ascending positions minus the smallest, and 0 for one or none. Nothing asks that they ascend.
 fn span_of(pos: &[u16]) -> u16
     ensures { λ r. ⌜ r ≡ span (now (pos .entry)) ⌝ }
 {
@@ -135,12 +135,12 @@ fn in_order(p: &[u16], q: &[u16]) -> bool
     if q.len() < p.len() {
         return false;
     }
-    let across = span_of(p);
-    let other = span_of(q);
-    if across < other {
+    let p_span = span_of(p);
+    let q_span = span_of(q);
+    if p_span < q_span {
         return true;
     }
-    if other < across {
+    if q_span < p_span {
         return false;
     }
     is_lower(p, q)

@@ -9,8 +9,8 @@ ghost use Rattle.placing.specs.Placing.{answer, firstAfter, Lookup, Near
 
 // The least position at or past `lo` and below `end` whose power is `u`, by the first one and the period. What it returns is at or
 // past `end` where there is none. The first test asks whether the first position is at or past `lo` and below `end`, both at once:
-// nearly every trial fails it, and a second test would be a gamble. The next asks for all of `pow`, so that in a loop it is the same
-// at each turn.
+// nearly every trial fails it, and a second test would be a gamble. The second test is about the length of `pow`, and not about
+// `end`, so that a loop in which `end` moves can ask it once.
 pub fn nearest_below(
     pow: &[u32],
     first: &[u16],
@@ -120,7 +120,7 @@ pub fn place(
     false
 }
 
-// Goes on from two positions. It is `resume` for two, and spelt out since a page does it for each record.
+// Goes on from two positions. It is `resume` for two, and spelt out since a repair does it for each set.
 fn resume_pair(pow: &[u32], first: &[u16], period: usize, u: usize, pos: &mut [u16]) -> bool
     requires { ⌜ Ready (now pow) (now first) period 0 u × (length (now pos) ≡ 2) × Ascending (length (now pow)) 0 (now pos) ⌝ }
     ensures { λ r. ⌜ ((power : ℕ → ℕ) → Lookup power (now (pow .entry)) (now (first .entry)) period → answer r (now (pos .exit)) ≡ firstAfter power (length (now (pow .entry))) (now (pos .entry)) u) ⌝ }

@@ -1,4 +1,4 @@
-// The search for the first listed error pattern, and for the first that follows one: count by count, and within a count by the
+// The search for the first set that is met, and for the first after one: count by count, and within a count by the
 // placing of positions. Counts that parity rules out are skipped; of the generator only its number of ones is asked. Contracts hold
 // for any powers that the two tables describe.
 ghost use mathlib.Core.Path.{_≡_};
@@ -98,7 +98,7 @@ fn rise(
     Found::Nothing
 }
 
-// The first listed pattern of at most as many positions as `pos` has room for: its count, and its positions in front.
+// The first set that is met, of at most as many positions as `pos` has room for: its count, and its positions in front.
 pub fn search_first(
     generator: u64,
     pow: &[u32],
@@ -121,7 +121,7 @@ pub fn search_first(
     )
 }
 
-// The first listed pattern that follows the one in front of `pos`, which need not be listed.
+// The first that is met after the one in front of `pos`, which need not be met itself.
 pub fn search_next(
     generator: u64,
     pow: &[u32],

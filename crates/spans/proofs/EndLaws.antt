@@ -35,16 +35,16 @@ module _ (power : ℕ → ℕ) (l u a b d : ℕ) (at : b ≡ a + d) (some : 1 �
 
 -- ---- three positions ----
 
-module _ (power : ℕ → ℕ) (l u a b d : ℕ) (at : b ≡ a + d) (some : 1 ≤ d) (from v : ℕ) (behind : from ≡ a + 1) (sum : v ≡ bitXor u (bitXor (power a) (power b)))
+module _ (power : ℕ → ℕ) (l u a b d : ℕ) (at : b ≡ a + d) (some : 1 ≤ d) (from v : ℕ) (past : from ≡ a + 1) (sum : v ≡ bitXor u (bitXor (power a) (power b)))
     (c : ℕ) (near : Nearest power b from v c) where
   three-told : (r : Bool) → ltb c b ≡ r → answer r (c ∷ []) ≡ firstFrom power b 1 from v
   three-told r e = sym (nearest-first power b v c (b - from) from (omega arith) near ∙ ap (λ (x : Bool). answer x (c ∷ [])) e)
 
   pub three-hit : c < b → a + d < l → Foremost before (OfSpan power l 1 u d a) (a ∷ c ∷ b ∷ [])
-  three-hit h = turn-hit power 1 u l a b d at some b 1 from v refl refl behind sum true (c ∷ []) (three-told true (lt-ltb c b h)) refl
+  three-hit h = turn-hit power 1 u l a b d at some b 1 from v refl refl past sum true (c ∷ []) (three-told true (lt-ltb c b h)) refl
 
   pub three-miss : b ≤ c → (q : Bool) (x : List ℕ) → Finds before (OfSpan power l 1 u d (a + 1)) q x → Finds before (OfSpan power l 1 u d a) q x
-  three-miss h = turn-miss power 1 u l a b d at some b 1 from v refl refl behind sum false (c ∷ []) (three-told false (le-ltb c b h)) refl
+  three-miss h = turn-miss power 1 u l a b d at some b 1 from v refl refl past sum false (c ∷ []) (three-told false (le-ltb c b h)) refl
 
 pub set-three : (xs : List ℕ) (a b c : ℕ) → length xs ≡ 3 → set (set (set xs 0 a) 1 b) 2 c ≡ a ∷ b ∷ c ∷ []
 set-three [] a b c h = absurd (omega arith)

@@ -22,12 +22,12 @@ use Rattle.spans.specs.Spans.{framed}
 pub framed-length : (a b : ℕ) (ps : List ℕ) → length (framed a b ps) ≡ suc (suc (length ps))
 framed-length a b ps = simp length-append (omega arith)
 
-pub framed-last : (a b : ℕ) (ps : List ℕ) → getD (framed a b ps) (length (framed a b ps) - 1) 0 ≡ b
+framed-last : (a b : ℕ) (ps : List ℕ) → getD (framed a b ps) (length (framed a b ps) - 1) 0 ≡ b
 framed-last a b ps =
     let e : length (framed a b ps) - 1 ≡ suc (length ps) = omega (arith, framed-length a b ps) in
     ap (λ (i : ℕ). getD (framed a b ps) i 0) e ∙ getD-append-seam ps b [] 0
 
-pub framed-span : (a b : ℕ) (ps : List ℕ) → span (framed a b ps) ≡ b - a
+framed-span : (a b : ℕ) (ps : List ℕ) → span (framed a b ps) ≡ b - a
 framed-span a b ps = span-ends (framed a b ps) ∙ ap (λ (x : ℕ). x - a) (framed-last a b ps)
 
 module _ (power : ℕ → ℕ) where

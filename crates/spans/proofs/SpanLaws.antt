@@ -16,11 +16,11 @@ use Rattle.spans.proofs.FindLaws.{finds-in-first, finds-in-second, firs
 use Rattle.spans.proofs.FrameLaws.{framed-before, narrower-framed, lower-framed}
 
 module _ (power : ℕ → ℕ) (k u : ℕ) where
-  pub further-before : (a c d : ℕ) {x y : List ℕ} → a < c → Between power k u a (a + d) x → Between power k u c (c + d) y → before x y ≡ true
-  further-before a c d h (ps, e, m) (qs, f, n) = rw (e, f) (lower-framed a (a + d) c (c + d) ps qs (m .counts ∙ sym (n .counts)) (omega arith) h)
+  pub further-later : (a c d : ℕ) {x y : List ℕ} → a < c → Between power k u a (a + d) x → Between power k u c (c + d) y → before x y ≡ true
+  further-later a c d h (ps, e, m) (qs, f, n) = rw (e, f) (lower-framed a (a + d) c (c + d) ps qs (m .counts ∙ sym (n .counts)) (omega arith) h)
 
-  pub wider-after : (a d c e : ℕ) {x y : List ℕ} → d < e → Between power k u a (a + d) x → Between power k u c (c + e) y → before x y ≡ true
-  wider-after a d c e h (ps, i, m) (qs, j, n) = rw (i, j) (narrower-framed a (a + d) c (c + e) ps qs (m .counts ∙ sym (n .counts)) (omega arith))
+  pub wider-later : (a d c e : ℕ) {x y : List ℕ} → d < e → Between power k u a (a + d) x → Between power k u c (c + e) y → before x y ≡ true
+  wider-later a d c e h (ps, i, m) (qs, j, n) = rw (i, j) (narrower-framed a (a + d) c (c + e) ps qs (m .counts ∙ sym (n .counts)) (omega arith))
 
   -- ---- what a search tells ----
 
@@ -43,7 +43,7 @@ module _ (power : ℕ → ℕ) (k u : ℕ) where
     span-hit : (d a : ℕ) (x : List ℕ) → a + d < l → Foremost before (Between power k u a (a + d)) x → Foremost before (OfSpan power l k u d a) x
     span-hit d a x h e =
         finds-in-first before (OfSpan power l k u d a) (Between power k u a (a + d)) (OfSpan power l k u d (a + 1)) x (λ b m. (a, omega arith, h, m)) (of-split d a)
-        (λ b c m n. further-before a (n .0) d (omega (arith, n .1)) m (n .3)) e
+        (λ b c m n. further-later a (n .0) d (omega (arith, n .1)) m (n .3)) e
 
     span-miss : (d a : ℕ) (r : Bool) (x : List ℕ) → ((y : List ℕ) → Between power k u a (a + d) y → ⊥)
         → Finds before (OfSpan power l k u d (a + 1)) r x → Finds before (OfSpan power l k u d a) r x
@@ -55,7 +55,7 @@ module _ (power : ℕ → ℕ) (k u : ℕ) where
     span-past d a h y (c, i, j, m) = omega arith
 
     -- one turn: what a search between the ends told, at places that are given by equations
-    module _ (a b d : ℕ) (at : b ≡ a + d) (some : 1 ≤ d) (l' k' from v : ℕ) (below : l' ≡ b) (count : k' ≡ k) (behind : from ≡ a + 1)
+    module _ (a b d : ℕ) (at : b ≡ a + d) (some : 1 ≤ d) (l' k' from v : ℕ) (below : l' ≡ b) (count : k' ≡ k) (past : from ≡ a + 1)
         (sum : v ≡ bitXor u (bitXor (power a) (power b))) (r : Bool) (ys : List ℕ) (told : answer r ys ≡ firstFrom power l' k' from v) where
       turned : Finds before (Between power k u a (a + d)) r (framed a (a + d) ys)
       turned =
@@ -64,7 +64,7 @@ module _ (power : ℕ → ℕ) (k u : ℕ) where
           (first-finds power (a + d) k (suc a) (bitXor u (bitXor (power a) (power (a + d)))) (omega arith) r ys
           (told
           ∙ ap₂ (λ (i j : ℕ). firstFrom power i j from v) (below ∙ at) count
-          ∙ ap₂ (λ (i j : ℕ). firstFrom power (a + d) k i j) (behind ∙ e) (sum ∙ ap (λ (x : ℕ). bitXor u (bitXor (power a) (power x))) at)))
+          ∙ ap₂ (λ (i j : ℕ). firstFrom power (a + d) k i j) (past ∙ e) (sum ∙ ap (λ (x : ℕ). bitXor u (bitXor (power a) (power x))) at)))
 
       pub turn-hit : r ≡ true → a + d < l → Foremost before (OfSpan power l k u d a) (framed a b ys)
       turn-hit e h = rw at (span-hit d a (framed a (a + d) ys) h (rw e at turned))

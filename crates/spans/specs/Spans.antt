@@ -25,7 +25,7 @@ pub record Summing (power : ℕ → ℕ) (l k from u : ℕ) (ps : List ℕ) : Ty
 abbrev pub framed : ℕ → ℕ → List ℕ → List ℕ
 framed a b ps = a ∷ (ps ++ b ∷ [])
 
--- a set with the ends a and b, of k positions between them, whose powers have the sum u
+-- where a is below b: a set with these ends, of k positions between them, whose powers have the sum u
 abbrev pub Between : (ℕ → ℕ) → ℕ → ℕ → ℕ → ℕ → List ℕ → Type 0
 Between power k u a b qs = (ps : List ℕ) × (qs ≡ framed a b ps) × Summing power b k (suc a) (bitXor u (bitXor (power a) (power b))) ps
 

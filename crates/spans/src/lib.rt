@@ -28,7 +28,7 @@ fn two_of_span(pow: &[u32], span: usize, from: usize, u: usize, pos: &mut [u16])
     false
 }
 
-// Three positions of one span: the one between the ends is looked up.
+// Three positions of one span: the one between the ends is looked up, in this loop, for a list at limit 3 spends its time here.
 fn three_of_span(
     pow: &[u32],
     first: &[u16],
@@ -109,7 +109,8 @@ pub fn of_span(
     more_of_span(pow, first, period, span, from, u, pos)
 }
 
-// Goes on from three positions, the ends kept: the one between them is looked up.
+// Goes on from three positions, the ends kept: the one between them is looked up. It is `more_between` for three, and spelt out since
+// a page does it for each record.
 fn one_between(pow: &[u32], first: &[u16], period: usize, u: usize, pos: &mut [u16]) -> bool
     requires { ⌜ Ready (now pow) (now first) period 0 u × (length (now pos) ≡ 3) × Ascending (length (now pow)) 0 (now pos) ⌝ }
     ensures { λ r. ⌜ ((power : ℕ → ℕ) → Lookup power (now (pow .entry)) (now (first .entry)) period → Finds before (Behind (Between power 1 u (getD (now (pos .entry)) 0 0) (getD (now (pos .entry)) 2 0)) (now (pos .entry))) r (now (pos .exit))) ⌝ }

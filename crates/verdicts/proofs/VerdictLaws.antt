@@ -25,7 +25,7 @@ use Rattle.patterns.specs.StrictOrder.{Sorted}
 use Rattle.patterns.specs.Listing.{syndrome}
 use Rattle.patterns.proofs.OrderLaws.{before-strict-total}
 use Rattle.patterns.proofs.SiftLaws.{sift-in, in-sift, sift-same}
-use Rattle.patterns.proofs.SortedLaws.{sorted-head, sorted-sift}
+use Rattle.patterns.proofs.SortedLaws.{sorted-head, sorted-sift, differs}
 use Rattle.patterns.proofs.ForemostLaws.{foremost-same, first-foremost, foremost-first}
 use Rattle.patterns.proofs.ListingLaws.{listed-iff, listing-sorted}
 use Rattle.verdicts.specs.Verdicts.{passesBoth, packetList, candidates, Said, intact, repaired, several, nothing, settled, verdict, mended, outputFor, Leads, leading, Earliest}
@@ -36,11 +36,8 @@ only-member : {p q : List ℕ} → In q (p ∷ []) → q ≡ p
 only-member (here d) = d
 only-member (there i) = absurd (in-nothing i)
 
-before-differs : {p q : List ℕ} → before p q ≡ true → p ≡ q → ⊥
-before-differs {q = q} h d = true≢false (sym h ∙ ap (λ (r : List ℕ). before r q) d ∙ before-strict-total .irreflexive q)
-
 first-two-differ : {x y : List ℕ} {ys : List (List ℕ)} → Sorted before (x ∷ y ∷ ys) → x ≡ y → ⊥
-first-two-differ {y = y} sorted = before-differs (sorted-head sorted y (here refl))
+first-two-differ {y = y} sorted = differs before-strict-total (sorted-head sorted y (here refl))
 
 only-one : {p : List ℕ} {xs : List (List ℕ)} → Sorted before xs → In p xs → ((q : List ℕ) → In q xs → q ≡ p) → xs ≡ p ∷ []
 only-one {xs = []} sorted h only = absurd (in-nothing h)

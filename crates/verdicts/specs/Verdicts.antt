@@ -74,6 +74,6 @@ pub record Leads (c : Crc) (k : Check) (limit : ℕ) (s ps : List ℕ) : Type 0 
 abbrev pub leading : Crc → Check → ℕ → List ℕ → List (List ℕ)
 leading c k limit s = sift (λ ps. passesBoth c k (flips s ps)) (packetList c limit s)
 
--- the set that stands first of those that meet P: it does, and every other that does comes after it in the order
+-- the set that stands first, in the list's order, of those that meet P
 abbrev pub Earliest : (List ℕ → Type 0) → List ℕ → Type 0
 Earliest P ps = Foremost before P ps

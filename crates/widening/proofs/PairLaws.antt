@@ -12,8 +12,8 @@ use Rattle.spans.specs.Spans.{OfSpan}
 use Rattle.widening.specs.Widening.{Spanless}
 
 module _ (power : ℕ → ℕ) (l u : ℕ) where
-  -- every pair of a span from d on, its smallest position below a, has one of e or more; where a pair has its smallest position, its
-  -- largest has the power that is left
+  -- every pair that begins below a and has a span of at least d has one of at least e; where a pair begins at c, its other position has
+  -- the power that is left
   abbrev pub Pairs : ℕ → ℕ → ℕ → Type 0
   Pairs d e a = (c f : ℕ) → c < a → d ≤ f → c + f < l → power (c + f) ≡ bitXor u (power c) → e ≤ f
 

@@ -15,7 +15,7 @@ use Rattle.placing.specs.Placing.{xorAll}
 use Rattle.spans.specs.Spans.{Finds, Summing, framed, OfSpan}
 use Rattle.spans.proofs.FindLaws.{finds-same, finds-in-first, finds-in-second}
 use Rattle.spans.proofs.FrameLaws.{framed-length, framed-sum, framed-ascends, Framed, frame}
-use Rattle.spans.proofs.SpanLaws.{wider-after}
+use Rattle.spans.proofs.SpanLaws.{wider-later}
 use Rattle.widening.specs.Widening.{FromSpan, Spanless}
 
 -- k + 2 positions below l with the sum u
@@ -71,7 +71,7 @@ module _ (power : ℕ → ℕ) (l k u : ℕ) where
   pub wide-hit : (d : ℕ) (x : List ℕ) → Foremost before (OfSpan power l k u d 0) x → Foremost before (FromSpan power l k u d) x
   wide-hit d x e =
       finds-in-first before (FromSpan power l k u d) (OfSpan power l k u d 0) (FromSpan power l k u (d + 1)) x (λ b m. (d, omega arith, m)) (from-split d)
-      (λ b c m n. wider-after power k u (m .0) d (n .2 .0) (n .0) (omega (arith, n .1)) (m .3) (n .2 .3)) e
+      (λ b c m n. wider-later power k u (m .0) d (n .2 .0) (n .0) (omega (arith, n .1)) (m .3) (n .2 .3)) e
 
   pub wide-miss : (d : ℕ) (r : Bool) (x : List ℕ) → ((y : List ℕ) → OfSpan power l k u d 0 y → ⊥) → Finds before (FromSpan power l k u (d + 1)) r x → Finds before (FromSpan power l k u d) r x
   wide-miss d r x none =

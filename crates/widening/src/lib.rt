@@ -22,9 +22,9 @@ fn closer(best: usize, l: usize, a: usize, b: usize) -> usize
     b - a
 }
 
-// A span at or past `span` such that no set has one between: of pairs the least that occurs, and `span` itself of larger sets. Pairs
-// have nothing between their ends, so that most spans have none, and to try each would be slow; one pass finds for each position its
-// nearest partner, and ends early where the span is `span` itself.
+// A span from `span` on, before which no set has one: of pairs the least that some pair has, and of larger sets `span` itself. Most spans
+// have no pair, and to try each would be slow. So one pass finds the nearest partner of each position, and it ends early where that is
+// at the distance `span` itself.
 fn next_span(
     pow: &[u32],
     first: &[u16],

@@ -22,7 +22,7 @@ returns c =
     let l : ℕ = length (s .args .pow .now) in
     let m : ℕ = length (s .args .pos .now) in
     let xs : List (List ℕ) = listedBy (s .args .cursor) l m in
-    told-along before l m xs (f .lead .result) (f .lead .last .1 .1 .1 .0) (from-start xs (f .before .before .enum-told .given .1)) (f .lead .ensures)
+    told-along before l m xs (f .first-listed .result) (f .first-listed .last .1 .1 .1 .0) (from-start xs (f .before .before .enum-told .given .1)) (f .first-listed .ensures)
 
 returns-2 : tie.Need-returns-2
 returns-2 c =

@@ -2,7 +2,7 @@
 use mathlib.Core.Path.{sym, _∙_}
 use borrow.Author.Needs.{needs}
 use lib.ListN.{length}
-use Rattle.ordered.proofs.ClimbLaws.{none-summing}
+use Rattle.ordered.proofs.RiseLaws.{none-summing}
 use Rattle.ordered.proofs.next_or_skip.Statement.{statement}
 use Rattle.ordered.proofs.next_or_skip.Tie as tie
 

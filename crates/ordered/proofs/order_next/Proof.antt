@@ -10,7 +10,7 @@ use Rattle.patterns.specs.Order.{before}
 use Rattle.patterns.specs.StrictOrder.{Foremost}
 use Rattle.spans.specs.Spans.{Summing, Behind}
 use Rattle.ordered.specs.Ordered.{Among}
-use Rattle.ordered.proofs.ClimbLaws.{behind-hit, behind-miss, found-front, found-by}
+use Rattle.ordered.proofs.RiseLaws.{later-hit, later-miss, found-front, found-by}
 use Rattle.ordered.proofs.order_next.Statement.{statement}
 use Rattle.ordered.proofs.order_next.Tie as tie
 
@@ -32,14 +32,14 @@ returns c =
       λ power t.
           let hit : Foremost before (Behind (Summing power l (s .args .count) 0 (s .args .syndrome)) q) ys = rw (c .if1 .taken, e) at (p .ensures power t) in
           found-front (Behind (Among power l 0 n (s .args .syndrome)) q) (s .args .count) (s .args .pos .now) ys (s .pre .1) (p .kept .1 .1 .1 .1 .1 .0)
-          (behind-hit power l n (s .args .syndrome) q (s .args .count) e (s .pre .1) ys hit),
+          (later-hit power l n (s .args .syndrome) q (s .args .count) e (s .pre .1) ys hit),
     )
 
 returns-2 : tie.Need-returns-2
 returns-2 c =
     let s = c .before .before .before .before .before .before .before .before .before .before .before .before in
     let p = c .before .before .before .before .before .before .before .next-or-skip in
-    let m = c .before .before .climb in
+    let m = c .before .before .rise in
     let ys : List ℕ = p .last .1 .1 .1 .1 .1 .0 in
     let q : List ℕ = take (s .args .count) (s .args .pos .now) in
     let l : ℕ = length (s .args .pow .now) in
@@ -49,7 +49,7 @@ returns-2 c =
       rw w at (m .ensures .0),
       λ power t.
           let none : (y : List ℕ) → Behind (Summing power l (s .args .count) 0 (s .args .syndrome)) q y → ⊥ = rw (c .before .before .before .before .if1 .left, e) at (p .ensures power t) in
-          found-by (behind-miss power l n (s .args .syndrome) q (s .args .count) e (s .pre .1) none _ (omega arith)) (m .result) (m .last .1 .1 .1 .1 .1 .1 .0) (rw w at (m .ensures .1 power t)),
+          found-by (later-miss power l n (s .args .syndrome) q (s .args .count) e (s .pre .1) none _ (omega arith)) (m .result) (m .last .1 .1 .1 .1 .1 .1 .0) (rw w at (m .ensures .1 power t)),
     )
 
 pub order-next-spec : {M : Type 1} → statement M

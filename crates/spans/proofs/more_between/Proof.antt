@@ -13,41 +13,28 @@ use Rattle.spans.proofs.BetweenLaws.{between-finds}
 use Rattle.spans.proofs.more_between.Statement.{statement}
 use Rattle.spans.proofs.more_between.Tie as tie
 
+-- the ends are apart, below the powers' number
+held : (s : tie.Start) → let q = s .args .pos .now in
+    (getD q 0 0 < getD q (length q - 1) 0) × (getD q (length q - 1) 0 < length (s .args .pow .now)) × (length (s .args .pow .now) ≤ 4096)
+held s = let k = cut (s .args .pos .now) (s .pre .2) (s .pre .1) in (k .apart, k .below, s .pre .0 .shape .short)
+
 cast-a : tie.Need-cast-a
-cast-a c =
-    let s = c .before .before .before .before in
-    let k = cut (s .args .pos .now) (s .pre .2) (s .pre .1) in
-    omega (arith, k .apart, k .below, s .pre .0 .shape .short)
+cast-a c = omega (arith, held (c .before .before .before .before))
 
 cast-b : tie.Need-cast-b
-cast-b c =
-    let s = c .before .before .before .before .before in
-    let k = cut (s .args .pos .now) (s .pre .2) (s .pre .1) in
-    omega (arith, k .apart, k .below, s .pre .0 .shape .short)
+cast-b c = omega (arith, held (c .before .before .before .before .before))
 
 mul-v : tie.Need-mul-v
-mul-v c =
-    let s = c .before .before .before .before .before in
-    let k = cut (s .args .pos .now) (s .pre .2) (s .pre .1) in
-    omega (arith, k .apart, k .below, s .pre .0 .shape .short)
+mul-v c = omega (arith, held (c .before .before .before .before .before))
 
 shared-slice-read-v : tie.Need-shared-slice-read-v
-shared-slice-read-v c =
-    let s = c .before .before .before .before .before .before in
-    let k = cut (s .args .pos .now) (s .pre .2) (s .pre .1) in
-    omega (arith, k .apart, k .below)
+shared-slice-read-v c = omega (arith, held (c .before .before .before .before .before .before))
 
 mul-v-2 : tie.Need-mul-v-2
-mul-v-2 c =
-    let s = c .before .before .before .before .before .before in
-    let k = cut (s .args .pos .now) (s .pre .2) (s .pre .1) in
-    omega (arith, k .apart, k .below, s .pre .0 .shape .short)
+mul-v-2 c = omega (arith, held (c .before .before .before .before .before .before))
 
 shared-slice-read-v-2 : tie.Need-shared-slice-read-v-2
-shared-slice-read-v-2 c =
-    let s = c .before .before .before .before .before .before .before in
-    let k = cut (s .args .pos .now) (s .pre .2) (s .pre .1) in
-    omega (arith, k .apart, k .below)
+shared-slice-read-v-2 c = omega (arith, held (c .before .before .before .before .before .before .before))
 
 cast-v : tie.Need-cast-v
 cast-v c =

@@ -2,13 +2,13 @@
 use mathlib.Core.Path.{_≡_, refl}
 use mathlib.Core.Bool.{Bool, true, false}
 use mathlib.Core.List.{[], _∷_}
-use Prim.Native.Nat.{ℕ, _^_, _<_}
+use Prim.Native.Nat.{ℕ, _^_, _<_, _≤_}
 use borrow.Author.Needs.{needs}
 use borrow.Author.Tests.{lt-ltb, le-ltb}
 use native.Mathlib.Omega.{arith}
 use lib.Bits.{xor-lt}
 use lib.Dec.{ltb}
-use lib.ListN.{getD}
+use lib.ListN.{length, getD}
 use Rattle.patterns.specs.Order.{before}
 use Rattle.placing.specs.Placing.{Lookup}
 use Rattle.spans.specs.Spans.{Finds, framed, Between, Behind}
@@ -17,26 +17,31 @@ use Rattle.spans.proofs.BetweenLaws.{three-ascend, cut-three, set-middl
 use Rattle.spans.proofs.one_between.Statement.{statement}
 use Rattle.spans.proofs.one_between.Tie as tie
 
+-- the positions ascend, below the powers' number
+held : (s : tie.Start) → let q = s .args .pos .now in
+    ((getD q 0 0 < getD q 1 0) × (getD q 1 0 < getD q 2 0) × (getD q 2 0 < length (s .args .pow .now))) × (length (s .args .pow .now) ≤ 4096)
+held s = (three-ascend (s .pre .2) (s .pre .1), s .pre .0 .shape .short)
+
 cast-a : tie.Need-cast-a
-cast-a c = let s = c .before .before .before .before in omega (arith, three-ascend (s .pre .2) (s .pre .1), s .pre .0 .shape .short)
+cast-a c = omega (arith, held (c .before .before .before .before))
 
 cast-m : tie.Need-cast-m
-cast-m c = let s = c .before .before .before .before .before in omega (arith, three-ascend (s .pre .2) (s .pre .1), s .pre .0 .shape .short)
+cast-m c = omega (arith, held (c .before .before .before .before .before))
 
 cast-b : tie.Need-cast-b
-cast-b c = let s = c .before .before .before .before .before .before in omega (arith, three-ascend (s .pre .2) (s .pre .1), s .pre .0 .shape .short)
+cast-b c = omega (arith, held (c .before .before .before .before .before .before))
 
 mul-v : tie.Need-mul-v
-mul-v c = let s = c .before .before .before .before .before .before in omega (arith, three-ascend (s .pre .2) (s .pre .1), s .pre .0 .shape .short)
+mul-v c = omega (arith, held (c .before .before .before .before .before .before))
 
 shared-slice-read-v : tie.Need-shared-slice-read-v
-shared-slice-read-v c = let s = c .before .before .before .before .before .before .before in omega (arith, three-ascend (s .pre .2) (s .pre .1), s .pre .0 .shape .short)
+shared-slice-read-v c = omega (arith, held (c .before .before .before .before .before .before .before))
 
 mul-v-2 : tie.Need-mul-v-2
-mul-v-2 c = let s = c .before .before .before .before .before .before .before in omega (arith, three-ascend (s .pre .2) (s .pre .1), s .pre .0 .shape .short)
+mul-v-2 c = omega (arith, held (c .before .before .before .before .before .before .before))
 
 shared-slice-read-v-2 : tie.Need-shared-slice-read-v-2
-shared-slice-read-v-2 c = let s = c .before .before .before .before .before .before .before .before in omega (arith, three-ascend (s .pre .2) (s .pre .1), s .pre .0 .shape .short)
+shared-slice-read-v-2 c = omega (arith, held (c .before .before .before .before .before .before .before .before))
 
 cast-v : tie.Need-cast-v
 cast-v c =
@@ -49,7 +54,7 @@ cast-v c =
     omega (arith, xor-lt 32 (getD p i 0) (getD p j 0) x y)
 
 add-nearest-below : tie.Need-add-nearest-below
-add-nearest-below c = let s = c .before .before .before .before .before .before .before .before in omega (arith, three-ascend (s .pre .2) (s .pre .1), s .pre .0 .shape .short)
+add-nearest-below c = omega (arith, held (c .before .before .before .before .before .before .before .before))
 
 nearest-below-requires : tie.Need-nearest-below-requires
 nearest-below-requires c κs =
@@ -59,7 +64,7 @@ nearest-below-requires c κs =
     (ready-left (s .pre .0) (getD q 0 0) (getD q 2 0) (omega (arith, k)) (k .2) (omega (arith, k)), omega (arith, k), omega (arith, k))
 
 cast-pos : tie.Need-cast-pos
-cast-pos c = let s = c .before .before .before .before .before .before .before .before .before .before in omega (arith, three-ascend (s .pre .2) (s .pre .1), s .pre .0 .shape .short)
+cast-pos c = omega (arith, held (c .before .before .before .before .before .before .before .before .before .before))
 
 -- what the look-up tells, whichever way it ends
 told : (c : tie.After-nearest-below) → let s = c .before .before .before .before .before .before .before .before .before in

@@ -1,19 +1,24 @@
 -- `beyond` finds the first set of its count that follows one: with the same ends, of the same span, or of a greater one.
 use mathlib.Core.Path.{_≡_, _∙_}
-use Prim.Native.Nat.{suc, _-_}
+use Prim.Native.Nat.{suc, _-_, _<_, _≤_}
 use borrow.Author.Needs.{needs}
 use native.Mathlib.Omega.{arith}
-use lib.ListN.{length}
+use lib.ListN.{length, getD}
 use Rattle.spans.proofs.FrameLaws.{cut}
 use Rattle.widening.proofs.BeyondLaws.{found-between, found-further, found-wider}
 use Rattle.widening.proofs.beyond.Statement.{statement}
 use Rattle.widening.proofs.beyond.Tie as tie
 
+-- the ends are apart, below the powers' number
+held : (s : tie.Start) → let q = s .args .pos .now in
+    (getD q 0 0 < getD q (length q - 1) 0) × (getD q (length q - 1) 0 < length (s .args .pow .now)) × (length (s .args .pow .now) ≤ 4096)
+held s = let k = cut (s .args .pos .now) (s .pre .2) (s .pre .1) in (k .apart, k .below, s .pre .0 .shape .short)
+
 cast-a : tie.Need-cast-a
-cast-a c = let s = c .before .before .before .before in let k = cut (s .args .pos .now) (s .pre .2) (s .pre .1) in omega (arith, k .apart, k .below, s .pre .0 .shape .short)
+cast-a c = omega (arith, held (c .before .before .before .before))
 
 cast-b : tie.Need-cast-b
-cast-b c = let s = c .before .before .before .before .before in let k = cut (s .args .pos .now) (s .pre .2) (s .pre .1) in omega (arith, k .apart, k .below, s .pre .0 .shape .short)
+cast-b c = omega (arith, held (c .before .before .before .before .before))
 
 returns : tie.Need-returns
 returns c power t =
@@ -24,10 +29,10 @@ returns c power t =
     found-between power (s .args .u) (cut q (s .pre .2) (s .pre .1)) two (m .last .1 .1 .1 .1 .0) (rw (c .if1 .taken) at (m .ensures power t))
 
 sub-of-span : tie.Need-sub-of-span
-sub-of-span c = let s = c .before .before .before .before .before .before .before .before .before .before in let k = cut (s .args .pos .now) (s .pre .2) (s .pre .1) in omega (arith, k .apart, k .below, s .pre .0 .shape .short)
+sub-of-span c = omega (arith, held (c .before .before .before .before .before .before .before .before .before .before))
 
 add-of-span : tie.Need-add-of-span
-add-of-span c = let s = c .before .before .before .before .before .before .before .before .before .before in let k = cut (s .args .pos .now) (s .pre .2) (s .pre .1) in omega (arith, k .apart, k .below, s .pre .0 .shape .short)
+add-of-span c = omega (arith, held (c .before .before .before .before .before .before .before .before .before .before))
 
 of-span-requires : tie.Need-of-span-requires
 of-span-requires c κs =
@@ -46,10 +51,10 @@ returns-2 c power t =
     (o .last .1 .1 .1 .1 .1 .1 .0) (rw (c .if2 .taken, m .kept .1 .1 .1 .1 .0) at (o .ensures power t))
 
 sub-from-span : tie.Need-sub-from-span
-sub-from-span c = let s = c .before .before .before .before .before .before .before .before .before .before .before .before .before .before .before in let k = cut (s .args .pos .now) (s .pre .2) (s .pre .1) in omega (arith, k .apart, k .below, s .pre .0 .shape .short)
+sub-from-span c = omega (arith, held (c .before .before .before .before .before .before .before .before .before .before .before .before .before .before .before))
 
 add-from-span : tie.Need-add-from-span
-add-from-span c = let s = c .before .before .before .before .before .before .before .before .before .before .before .before .before .before .before in let k = cut (s .args .pos .now) (s .pre .2) (s .pre .1) in omega (arith, k .apart, k .below, s .pre .0 .shape .short)
+add-from-span c = omega (arith, held (c .before .before .before .before .before .before .before .before .before .before .before .before .before .before .before))
 
 from-span-requires : tie.Need-from-span-requires
 from-span-requires c κs =

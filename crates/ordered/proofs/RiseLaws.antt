@@ -34,46 +34,46 @@ module _ (power : ℕ → ℕ) (l most u : ℕ) where
       by-equal (length x) k (λ e. inl (record { ascends = m .ascends; counts = e; sums = m .sums }))
       (λ e. inr (record { ascends = m .ascends; enough = omega (arith, m .enough); within = m .within; sums = m .sums }))
 
-  pub climb-hit : (k : ℕ) → k ≤ most → (x : List ℕ) → Foremost before (Summing power l k 0 u) x → Foremost before (Among power l k most u) x
-  climb-hit k h x e =
+  pub rise-hit : (k : ℕ) → k ≤ most → (x : List ℕ) → Foremost before (Summing power l k 0 u) x → Foremost before (Among power l k most u) x
+  rise-hit k h x e =
       finds-in-first before (Among power l k most u) (Summing power l k 0 u) (Among power l (k + 1) most u) x
       (λ b m. record { ascends = m .ascends; enough = omega (arith, m .counts); within = omega (arith, m .counts); sums = m .sums }) (among-split k)
       (λ b c m n. fewer-before b c (omega (arith, m .counts, n .enough))) e
 
-  pub climb-miss : (k : ℕ) → ((x : List ℕ) → Summing power l k 0 u x → ⊥) → (r : Bool) (x : List ℕ) → Finds before (Among power l (k + 1) most u) r x → Finds before (Among power l k most u) r x
-  climb-miss k none r x =
+  pub rise-miss : (k : ℕ) → ((x : List ℕ) → Summing power l k 0 u x → ⊥) → (r : Bool) (x : List ℕ) → Finds before (Among power l (k + 1) most u) r x → Finds before (Among power l k most u) r x
+  rise-miss k none r x =
       finds-in-second before (Among power l k most u) (Summing power l k 0 u) (Among power l (k + 1) most u) r x
       (λ b m. record { ascends = m .ascends; enough = omega (arith, m .enough); within = m .within; sums = m .sums }) (among-split k) none
 
-  pub climb-past : (k : ℕ) → most < k → (x : List ℕ) → Among power l k most u x → ⊥
-  climb-past k h x m = omega (arith, m .enough, m .within)
+  pub rise-past : (k : ℕ) → most < k → (x : List ℕ) → Among power l k most u x → ⊥
+  rise-past k h x m = omega (arith, m .enough, m .within)
 
   -- ---- after a set q: more of its count, and then the counts above it ----
 
   module _ (q : List ℕ) (k : ℕ) (count : length q ≡ k) (room : k ≤ most) where
-    abbrev Level : List ℕ → Type 0
-    Level = Behind (Summing power l k 0 u) q
+    abbrev SameCount : List ℕ → Type 0
+    SameCount = Behind (Summing power l k 0 u) q
 
-    abbrev All : List ℕ → Type 0
-    All = Behind (Among power l 0 most u) q
+    abbrev Later : List ℕ → Type 0
+    Later = Behind (Among power l 0 most u) q
 
-    behind-split : (x : List ℕ) → All x → Level x ⊎ Among power l (k + 1) most u x
-    behind-split x (m, t) =
+    later-split : (x : List ℕ) → Later x → SameCount x ⊎ Among power l (k + 1) most u x
+    later-split x (m, t) =
         by-order (length x) k (λ h. absurd (never-both before-strict-total x q (fewer-before x q (omega arith)) t))
         (λ g.
         by-equal (length x) k (λ e. inl (record { ascends = m .ascends; counts = e; sums = m .sums }, t))
         (λ e. inr (record { ascends = m .ascends; enough = omega arith; within = m .within; sums = m .sums })))
 
-    pub behind-hit : (x : List ℕ) → Foremost before Level x → Foremost before All x
-    behind-hit x e =
-        finds-in-first before All Level (Among power l (k + 1) most u) x
-        (λ b m. (record { ascends = m .0 .ascends; enough = omega arith; within = omega (arith, m .0 .counts); sums = m .0 .sums }, m .1)) behind-split
+    pub later-hit : (x : List ℕ) → Foremost before SameCount x → Foremost before Later x
+    later-hit x e =
+        finds-in-first before Later SameCount (Among power l (k + 1) most u) x
+        (λ b m. (record { ascends = m .0 .ascends; enough = omega arith; within = omega (arith, m .0 .counts); sums = m .0 .sums }, m .1)) later-split
         (λ b c m n. fewer-before b c (omega (arith, m .0 .counts, n .enough))) e
 
-    pub behind-miss : ((x : List ℕ) → Level x → ⊥) → (above : ℕ) → above ≡ k + 1 → (r : Bool) (x : List ℕ) → Finds before (Among power l above most u) r x → Finds before All r x
-    behind-miss none above e r x f =
-        finds-in-second before All Level (Among power l (k + 1) most u) r x
-        (λ b m. (record { ascends = m .ascends; enough = omega arith; within = m .within; sums = m .sums }, fewer-before q b (omega (arith, m .enough)))) behind-split none
+    pub later-miss : ((x : List ℕ) → SameCount x → ⊥) → (above : ℕ) → above ≡ k + 1 → (r : Bool) (x : List ℕ) → Finds before (Among power l above most u) r x → Finds before Later r x
+    later-miss none above e r x f =
+        finds-in-second before Later SameCount (Among power l (k + 1) most u) r x
+        (λ b m. (record { ascends = m .ascends; enough = omega arith; within = m .within; sums = m .sums }, fewer-before q b (omega (arith, m .enough)))) later-split none
         (rw e at f)
 
 -- ---- a count found, of a slice whose front was lent ----

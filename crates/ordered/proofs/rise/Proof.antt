@@ -1,4 +1,4 @@
--- `climb` finds the first set of the counts from `count` on. The loop's invariant: what is first from the count `k` on is first from
+-- `rise` finds the first set of the counts from `count` on. The loop's invariant: what is first from the count `k` on is first from
 -- `count` on.
 use mathlib.Core.Path.{_≡_, refl, sym, _∙_}
 use mathlib.Core.Bool.{Bool, true, false}
@@ -13,9 +13,9 @@ use Rattle.placing.specs.Placing.{Lookup}
 use Rattle.patterns.specs.StrictOrder.{Foremost}
 use Rattle.spans.specs.Spans.{Finds, Summing}
 use Rattle.ordered.specs.Ordered.{Among}
-use Rattle.ordered.proofs.ClimbLaws.{climb-hit, climb-miss, climb-past, found-front}
-use Rattle.ordered.proofs.climb.Statement.{statement}
-use Rattle.ordered.proofs.climb.Tie as tie
+use Rattle.ordered.proofs.RiseLaws.{rise-hit, rise-miss, rise-past, found-front}
+use Rattle.ordered.proofs.rise.Statement.{statement}
+use Rattle.ordered.proofs.rise.Tie as tie
 
 abbrev Inv-loop : tie.InvT-loop
 Inv-loop generator pow first period count u pos₀ k₀ pos k =
@@ -52,7 +52,7 @@ returns c =
       λ power t.
           let hit : Foremost before (Summing power (length (s .args .pow .now)) (i .k) 0 (s .args .u)) ys = rw (c .if1 .taken, length-take-le (i .k) (i .pos) h) at (p .ensures power t) in
           found-front (Among power (length (s .args .pow .now)) (s .args .count) (length (s .args .pos .now)) (s .args .u)) (i .k) (i .pos) ys h (p .kept .1 .1 .1 .1 .1 .0)
-          (i .inv .2 power t true ys (climb-hit power (length (s .args .pow .now)) (length (s .args .pos .now)) (s .args .u) (i .k) (omega arith) ys hit)),
+          (i .inv .2 power t true ys (rise-hit power (length (s .args .pow .now)) (length (s .args .pos .now)) (s .args .u) (i .k) (omega arith) ys hit)),
     )
 
 add-k : tie.Need-add-k Inv-loop μ-loop
@@ -68,7 +68,7 @@ loop-again c =
       length-front (i .pos) (p .last .1 .1 .1 .1 .1 .0) (i .k) (p .kept .1 .1 .1 .1 .1 .0) ∙ i .inv .1,
       λ power t r x f.
           let none : (y : List ℕ) → Summing power (length (s .args .pow .now)) (i .k) 0 (s .args .u) y → ⊥ = rw (c .if1 .left, length-take-le (i .k) (i .pos) h) at (p .ensures power t) in
-          i .inv .2 power t r x (climb-miss power (length (s .args .pow .now)) (length (s .args .pos .now)) (s .args .u) (i .k) none r x f),
+          i .inv .2 power t r x (rise-miss power (length (s .args .pow .now)) (length (s .args .pos .now)) (s .args .u) (i .k) none r x f),
     )
 
 returns-2 : tie.Need-returns-2 Inv-loop μ-loop
@@ -77,11 +77,11 @@ returns-2 c =
     let i = c .before .loop in (
       tt,
       λ power t.
-          i .inv .2 power t false (i .pos) (climb-past power (length (s .args .pow .now)) (length (s .args .pos .now)) (s .args .u) (i .k) (omega arith)),
+          i .inv .2 power t false (i .pos) (rise-past power (length (s .args .pow .now)) (length (s .args .pos .now)) (s .args .u) (i .k) (omega arith)),
     )
 
-pub climb-spec : {M : Type 1} → statement M
-climb-spec =
+pub rise-spec : {M : Type 1} → statement M
+rise-spec =
     tie.close
     (tie.spec
     Inv-loop
