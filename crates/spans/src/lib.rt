@@ -42,9 +42,9 @@ fn three_of_span(
     ensures { λ r. ⌜ ((power : ℕ → ℕ) → Lookup power (now (pow .entry)) (now (first .entry)) period → Finds before (OfSpan power (length (now (pow .entry))) 1 u span from) r (now (pos .exit))) ⌝ }
 {
     let l = pow.len();
-    let mut a = from;
-    while a + span < l {
-        let b = a + span;
+    let mut b = from + span;
+    while b < l {
+        let a = b - span;
         let v = u ^ ((pow[a] ^ pow[b]) as usize);
         let c = placing::nearest_below(pow, first, period, a + 1, b, v);
         if c < b {
@@ -53,7 +53,7 @@ fn three_of_span(
             pos[2] = b as u16;
             return true;
         }
-        a += 1;
+        b += 1;
     }
     false
 }
