@@ -1,6 +1,6 @@
 -- `three_of_span` finds the first set of three of one span. The loop's invariant: what is first with the
 -- larger end from `b` on is first with the smaller end from `from` on.
-use mathlib.Core.Path.{_≡_, refl}
+use mathlib.Core.Path.{_≡_}
 use mathlib.Core.Bool.{Bool, true, false}
 use mathlib.Core.List.{List}
 use Prim.Native.Nat.{ℕ, _+_, _-_, _^_, _<_, _≤_}
