@@ -7,7 +7,7 @@ use packet::MOST_BITS;
 use poly::Generator;
 use verdicts::Verdict;
 ghost use mathlib.Core.Path.{_≡_};
-ghost use Prim.Native.Nat.{_≤_};
+ghost use Prim.Native.Nat.{_*_, _≤_};
 ghost use lib.ListN.{length};
 ghost use Rattle.base.specs.Judged.{judgement, judged};
 ghost use Rattle.packet.specs.Packet.{bits, crcOf};
@@ -17,6 +17,7 @@ ghost use Rattle.verdicts.specs.Settling.{Settleable};
 ghost use Rattle.repair.specs.Calls.{
   repairRequest,
   unfitCheckField,
+  settingConditions,
   repairConditions,
   repairAnswer,
   repairCall,
@@ -42,6 +43,35 @@ fn unfit_check_field(check: Check) -> bool
     checksum::unfit_field(check)
 }
 
+// The conditions on CRC, length, limit and tables, in their order; a repair begins with these.
+pub fn judge_settings(
+    generator: u64,
+    init: u64,
+    xorout: u64,
+    limit: usize,
+    steps: &[u16],
+    firsts: &[u16],
+    len: usize,
+) -> Judgement
+    ensures { λ r. ⌜ judgement r ≡ judged (settingConditions (crcOf generator init xorout) limit (now (steps .entry)) (now (firsts .entry)) (8 * len)) ⌝ }
+{
+    let judged = crc::judge_packet(generator, init, xorout, len);
+    if let Judgement::Refused(r) = judged {
+        return Judgement::Refused(r);
+    }
+    let g = Generator::of(generator);
+    if patterns::unfit_limit(limit) {
+        return Judgement::Refused(Refusal::Limit);
+    }
+    if tables::unfit_tables(g, steps.len(), firsts.len()) {
+        return Judgement::Refused(Refusal::TableLength);
+    }
+    if !verifying::verify(g, steps, firsts) {
+        return Judgement::Refused(Refusal::TableEntry);
+    }
+    Judgement::Passed
+}
+
 // The conditions of a repair, in their order.
 fn judge_repair(
     generator: u64,
@@ -56,25 +86,11 @@ fn judge_repair(
 ) -> Judgement
     ensures { λ r. ⌜ judgement r ≡ judged (repairConditions (repairRequest (crcOf generator init xorout) check limit (now (steps .entry)) (now (firsts .entry)) (now (packet .entry)) (now (output .entry)))) ⌝ }
 {
-    if poly::unfit_generator(generator) {
-        return Judgement::Refused(Refusal::Generator);
+    let judged = judge_settings(generator, init, xorout, limit, steps, firsts, packet.len());
+    if let Judgement::Refused(r) = judged {
+        return Judgement::Refused(r);
     }
     let g = Generator::of(generator);
-    if packet::unfit_bytes(g, packet.len()) {
-        return Judgement::Refused(Refusal::Length);
-    }
-    if packet::unfit_values(g, init, xorout) {
-        return Judgement::Refused(Refusal::Values);
-    }
-    if patterns::unfit_limit(limit) {
-        return Judgement::Refused(Refusal::Limit);
-    }
-    if tables::unfit_tables(g, steps.len(), firsts.len()) {
-        return Judgement::Refused(Refusal::TableLength);
-    }
-    if !verifying::verify(g, steps, firsts) {
-        return Judgement::Refused(Refusal::TableEntry);
-    }
     if output.len() != packet.len() {
         return Judgement::Refused(Refusal::Output);
     }

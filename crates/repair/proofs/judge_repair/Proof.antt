@@ -1,21 +1,17 @@
--- `judge_repair` tests conditions 1, 2, 11, 3, 5, 6, 8, 9 and 10 in this order.
+-- `judge_repair` tests conditions 1, 2, 11, 3, 5, 6, 8, 9 and 10 in this order: the first six as `judge_settings` does.
 use mathlib.Core.Path.{_≡_, refl, sym, ap, _∙_}
-use mathlib.Core.Bool.{not}
 use mathlib.Core.List.{List}
 use Prim.Native.Nat.{_*_}
 use borrow.Author.Needs.{needs}
 use lib.ListN.{length, drop}
-use Rattle.base.specs.Outcome.{Condition}
-use Rattle.base.proofs.JudgeLaws.{Untested, all, but, stops, goes-on}
+use Rattle.base.specs.Outcome.{refused, Condition}
+use Rattle.base.specs.Judged.{judged}
+use Rattle.base.proofs.JudgeLaws.{turned-down, none-applies, Untested, all, but, stops, goes-on}
 use Rattle.poly.specs.Polynomial.{degree}
-use Rattle.poly.specs.Fit.{Fit}
 use Rattle.poly.specs.declared.Generator.{Generator}
-use Rattle.poly.proofs.GeneratorLaws.{made-fit}
-use Rattle.packet.specs.Packet.{unfitLength, unfitValues, crcOf}
+use Rattle.packet.specs.Packet.{crcOf}
 use Rattle.checksum.specs.Checksum.{unfitRange}
-use Rattle.tables.specs.Tables.{unfitTables, rightTables, wrongTables}
-use Rattle.tables.proofs.TableLaws.{fit-lengths, not-wrong}
-use Rattle.repair.specs.Calls.{repairRequest, repairConditions}
+use Rattle.repair.specs.Calls.{repairRequest, settingConditions, repairConditions}
 use Rattle.repair.proofs.ConditionLaws.{copy-unfit, copy-fit}
 use Rattle.repair.proofs.judge_repair.Statement.{statement}
 use Rattle.repair.proofs.judge_repair.Tie as tie
@@ -25,151 +21,63 @@ conditions s =
     let a = s .args in
     repairConditions (repairRequest (crcOf (a .generator) (a .init) (a .xorout)) (a .check) (a .limit) (a .steps .now) (a .firsts .now) (a .packet .now) (a .output .now))
 
--- past each condition: the entry, and what is left to test
-abbrev entry0 : tie.After-unfit-generator → tie.Start
-entry0 c = c .before .before .before .before .before
+abbrev shared : tie.Start → List Condition
+shared s =
+    let a = s .args in
+    settingConditions (crcOf (a .generator) (a .init) (a .xorout)) (a .limit) (a .steps .now) (a .firsts .now) (8 * length (a .packet .now))
 
-left0 : (c : tie.After-unfit-generator) → Untested (conditions (entry0 c)) (conditions (entry0 c))
-left0 c = all refl
-
-left1 : (c : tie.Else1) → let s = entry0 (c .before) in Untested (conditions s) (drop 1 (conditions s))
-left1 c = but (left0 (c .before)) (c .before .unfit-generator .ensures) (c .if1 .left)
-
--- the generator made is that of the number, and it is fit
 abbrev entry : tie.After-of → tie.Start
-entry c = entry0 (c .before .before)
+entry c = c .before .before .before .before .before .before .before .before
 
-fit : (c : tie.After-of) → Fit (c .of .result)
-fit c = made-fit (entry c .args .generator) (c .before .before .unfit-generator .ensures) (c .before .if1 .left) (c .of .ensures)
+-- past each condition: what is left to test
+left6 : (c : tie.After-of) → Untested (conditions (entry c)) (drop 6 (conditions (entry c)))
+left6 c =
+    let clear = none-applies (shared (entry c)) (c .before .before .before .judge-settings .ensures) (c .before .enum-told .given .1) in
+    but (but (but (but (but (but (all refl) refl (clear 1)) refl (clear 2)) refl (clear 11)) refl (clear 3)) refl (clear 5)) refl (clear 6)
 
-tested2 : (c : tie.After-unfit-bytes) → let a = entry (c .before) .args in c .unfit-bytes .result ≡ unfitLength (degree (a .generator)) (8 * length (a .packet .now))
-tested2 c =
-    let a = entry (c .before) .args in
-    c .unfit-bytes .ensures ∙ ap (λ (g : Generator). unfitLength (g .degree) (8 * length (a .packet .now))) (c .before .of .ensures)
+left7 : (c : tie.Else1) → let s = entry (c .before) in Untested (conditions s) (drop 7 (conditions s))
+left7 c = but (left6 (c .before)) (copy-fit _ _ (c .if1 .left)) refl
 
-left2 : (c : tie.Else2) → let s = entry (c .before .before) in Untested (conditions s) (drop 2 (conditions s))
-left2 c = but (left1 (c .before .before .before)) (tested2 (c .before)) (c .if2 .left)
-
-abbrev made3 : tie.Else3 → tie.After-of
-made3 c = c .before .before .before .before
-
-tested3 : (c : tie.After-unfit-values) → let a = entry (c .before .before .before) .args in
-    c .unfit-values .result ≡ unfitValues (degree (a .generator)) (a .init) (a .xorout)
-tested3 c =
-    let o = c .before .before .before in
-    let a = entry o .args in
-    c .unfit-values .ensures ∙ ap (λ (g : Generator). unfitValues (g .degree) (a .init) (a .xorout)) (o .of .ensures)
-
-left3 : (c : tie.Else3) → let s = entry (made3 c) in Untested (conditions s) (drop 3 (conditions s))
-left3 c = but (left2 (c .before .before)) (tested3 (c .before)) (c .if3 .left)
-
-abbrev made4 : tie.Else4 → tie.After-of
-made4 c = made3 (c .before .before)
-
-left4 : (c : tie.Else4) → let s = entry (made4 c) in Untested (conditions s) (drop 4 (conditions s))
-left4 c = but (left3 (c .before .before)) (c .before .unfit-limit .ensures) (c .if4 .left)
-
-tested5 : (c : tie.After-unfit-tables) → let a = entry (made4 (c .before)) .args in
-    c .unfit-tables .result ≡ unfitTables (degree (a .generator)) (length (a .steps .now)) (length (a .firsts .now))
-tested5 c =
-    let o = made4 (c .before) in
-    let a = entry o .args in
-    c .unfit-tables .ensures ∙ ap (λ (g : Generator). unfitTables (g .degree) (length (a .steps .now)) (length (a .firsts .now))) (o .of .ensures)
-
-abbrev made5 : tie.Else5 → tie.After-of
-made5 c = made4 (c .before .before)
-
-left5 : (c : tie.Else5) → let s = entry (made5 c) in Untested (conditions s) (drop 5 (conditions s))
-left5 c = but (left4 (c .before .before)) (tested5 (c .before)) (c .if5 .left)
-
-tested6 : (c : tie.After-verify) → let a = entry (made5 (c .before)) .args in
-    not (c .verify .result) ≡ wrongTables (degree (a .generator)) (a .generator) (a .steps .now) (a .firsts .now)
-tested6 c =
-    let o = made5 (c .before) in
-    let a = entry o .args in
-    ap not (c .verify .ensures ∙ ap (λ (g : Generator). rightTables (g .degree) (g .coefficients) (a .steps .now) (a .firsts .now)) (o .of .ensures))
-    ∙ sym (not-wrong _ _ _ _)
-
-abbrev made6 : tie.Else6 → tie.After-of
-made6 c = made5 (c .before .before)
-
-left6 : (c : tie.Else6) → let s = entry (made6 c) in Untested (conditions s) (drop 6 (conditions s))
-left6 c = but (left5 (c .before .before)) (tested6 (c .before)) (c .if6 .left)
-
-left7 : (c : tie.Else7) → let s = entry (made6 (c .before)) in Untested (conditions s) (drop 7 (conditions s))
-left7 c = but (left6 (c .before)) (copy-fit _ _ (c .if7 .left)) refl
-
-tested8 : (c : tie.After-unfit-range) → let a = entry (made6 (c .before .before)) .args in
+tested8 : (c : tie.After-unfit-range) → let a = entry (c .before .before) .args in
     c .unfit-range .result ≡ unfitRange (degree (a .generator)) (8 * length (a .packet .now)) (a .check)
 tested8 c =
-    let o = made6 (c .before .before) in
+    let o = c .before .before in
     let a = entry o .args in
     c .unfit-range .ensures ∙ ap (λ (g : Generator). unfitRange (g .degree) (8 * length (a .packet .now)) (a .check)) (o .of .ensures)
 
-left8 : (c : tie.Else8) → let s = entry (made6 (c .before .before .before)) in Untested (conditions s) (drop 8 (conditions s))
-left8 c = but (left7 (c .before .before)) (tested8 (c .before)) (c .if8 .left)
+left8 : (c : tie.Else2) → let s = entry (c .before .before .before) in Untested (conditions s) (drop 8 (conditions s))
+left8 c = but (left7 (c .before .before)) (tested8 (c .before)) (c .if2 .left)
 
 returns : tie.Need-returns
-returns c = stops (left0 (c .before)) (c .before .unfit-generator .ensures) (c .if1 .taken)
+returns c =
+    let j = c .before .before .before in
+    let s = j .before .before .before .before .before in
+    sym (turned-down (shared s) (j .judge-settings .ensures) (c .before .judged .given .1) refused (judged (drop 6 (conditions s))))
 
 returns-2 : tie.Need-returns-2
-returns-2 c = stops (left1 (c .before .before .before)) (tested2 (c .before)) (c .if2 .taken)
-
-unfit-values-requires : tie.Need-unfit-values-requires
-unfit-values-requires c κs = fit (c .before .before)
+returns-2 c = stops (left6 (c .before)) (copy-unfit _ _ (c .if1 .taken)) refl
 
 returns-3 : tie.Need-returns-3
-returns-3 c = stops (left2 (c .before .before)) (tested3 (c .before)) (c .if3 .taken)
+returns-3 c = stops (left7 (c .before .before)) (tested8 (c .before)) (c .if2 .taken)
 
 returns-4 : tie.Need-returns-4
-returns-4 c = stops (left3 (c .before .before)) (c .before .unfit-limit .ensures) (c .if4 .taken)
-
-unfit-tables-requires : tie.Need-unfit-tables-requires
-unfit-tables-requires c κs = fit (made4 c)
+returns-4 c = stops (left8 (c .before .before)) (c .before .unfit-check-field .ensures) (c .if3 .taken)
 
 returns-5 : tie.Need-returns-5
-returns-5 c = stops (left4 (c .before .before)) (tested5 (c .before)) (c .if5 .taken)
-
-verify-requires : tie.Need-verify-requires
-verify-requires c κs =
-    let full = fit-lengths _ _ _ (sym (c .before .unfit-tables .ensures) ∙ c .if5 .left) in
-    (record { fit = fit (made5 c); full = full .0 }, record { fit = fit (made5 c); full = full .1 })
-
-returns-6 : tie.Need-returns-6
-returns-6 c = stops (left5 (c .before .before)) (tested6 (c .before)) (c .if6 .taken)
-
-returns-7 : tie.Need-returns-7
-returns-7 c = stops (left6 (c .before)) (copy-unfit _ _ (c .if7 .taken)) refl
-
-returns-8 : tie.Need-returns-8
-returns-8 c = stops (left7 (c .before .before)) (tested8 (c .before)) (c .if8 .taken)
-
-returns-9 : tie.Need-returns-9
-returns-9 c = stops (left8 (c .before .before)) (c .before .unfit-check-field .ensures) (c .if9 .taken)
-
-returns-10 : tie.Need-returns-10
-returns-10 c = goes-on (but (left8 (c .before .before)) (c .before .unfit-check-field .ensures) (c .if9 .left))
+returns-5 c = goes-on (but (left8 (c .before .before)) (c .before .unfit-check-field .ensures) (c .if3 .left))
 
 pub judge-repair-spec : {M : Type 1} → statement M
 judge-repair-spec =
     tie.close
     (tie.spec
     (λ c κs. search needs)
+    (λ c. search needs)
     returns
-    (λ c κs. search needs)
+    (λ c. search needs)
     (λ c κs. search needs)
     returns-2
-    unfit-values-requires
+    (λ c κs. search needs)
     returns-3
     (λ c κs. search needs)
     returns-4
-    unfit-tables-requires
-    returns-5
-    verify-requires
-    returns-6
-    returns-7
-    (λ c κs. search needs)
-    returns-8
-    (λ c κs. search needs)
-    returns-9
-    returns-10)
+    returns-5)
