@@ -28,6 +28,12 @@ yielded-bytes zero x i = omega arith
 yielded-bytes (suc k) x zero = byteOf-lt (nextState x) (nextState-lt x)
 yielded-bytes (suc k) x (suc i) = yielded-bytes k (nextState x) i
 
+-- one step more is the next state
+pub state-after-more : (k x : ℕ) → stateAfter (suc k) x ≡ nextState (stateAfter k x)
+unfolding stateAfter
+state-after-more zero x = refl
+state-after-more (suc k) x = state-after-more k (nextState x)
+
 -- ---- a slice filled up to i: what is written, then what the state x has still to yield, is the whole; and so is the last state ----
 
 pub record PartFilled (seed count : ℕ) (packet : List ℕ) (x i : ℕ) : Type 0 where

@@ -1,10 +1,10 @@
 -- Flipping the positions at which two packets differ makes one from the other; and packets that agree from some position
 -- on differ by a polynomial of smaller degree.
 use mathlib.Core.Path.{_≡_, refl, sym, ap, ap₂, _∙_}
-use mathlib.Core.List.{List}
+use mathlib.Core.List.{List, _∷_}
 use Prim.Native.Nat.{ℕ, zero, suc, _+_, _-_, _*_, _/_, _%_, _^_, _<_, _≤_}
 use native.Mathlib.Omega.{arith}
-use native.Mathlib.Nat.{mod-eq-of-lt, mod-one, div-one, mul-one, zero-mul, add-mul, mul-assoc}
+use native.Mathlib.Nat.{mod-eq-of-lt, mod-one, div-one, div-self, zero-div, mul-one, zero-mul, add-mul, mul-assoc}
 use native.Mathlib.Numerals.{add-one}
 use borrow.Author.Tests.{eqb-true, eqb-false}
 use lib.Bits.{bitXor, differ, xor-shifted, xor-comm, xor-lt}
@@ -14,7 +14,7 @@ use lib.Pow.{pow-pos, pow-lt, mod-pow-add, shr-shr}
 use Rattle.base.specs.Lists.{All, none, each, Ascending, ends, next}
 use Rattle.base.proofs.Cases.{by-test, by-order}
 use Rattle.base.proofs.ListLaws.{ascending-from, ascending-all}
-use Rattle.base.proofs.XorLaws.{xor-bit, xor-cancel, xor-ac}
+use Rattle.base.proofs.XorLaws.{xor-bit, xor-other, xor-cancel, xor-ac}
 use Rattle.poly.specs.Polynomial.{powers}
 use Rattle.packet.specs.Packet.{Bytes, bits, polynomial, bytesOf, bitAt, flips, differing, difference}
 use Rattle.packet.proofs.PacketLaws.{bytes-polynomial}
@@ -128,6 +128,56 @@ flips-twice t ps bt h =
     sym (bytes-polynomial (flips (flips t ps) ps) (flips-bytes (flips t ps) ps v bs))
     ∙ ap₂ bytesOf (flips-length (flips t ps) ps ∙ flips-length t ps) e
     ∙ bytes-polynomial t bt
+
+-- ---- a set of positions is told by its powers of x
+
+-- a position below the set is not in its sum
+powers-clear : {l from : ℕ} {ps : List ℕ} (p : ℕ) → p < from → Ascending l from ps → powers ps / 2 ^ p % 2 ≡ 0
+unfolding powers
+powers-clear p h ends = ap (λ (x : ℕ). x % 2) (zero-div (2 ^ p))
+powers-clear p h (next {p = q} {ps = qs} j k a) =
+    ap (λ (x : ℕ). x / 2 ^ p % 2) (xor-comm (2 ^ q) (powers qs)) ∙ xor-other (powers qs) q p (λ e. omega arith) ∙ powers-clear p (omega arith) a
+
+-- and the lowest one of the set is
+powers-set : {l : ℕ} (p : ℕ) {ps : List ℕ} → Ascending l (suc p) ps → powers (p ∷ ps) / 2 ^ p % 2 ≡ 1
+unfolding powers
+powers-set p {ps} a =
+    let one : 2 ^ p / 2 ^ p % 2 ≡ 1 = ap (λ (x : ℕ). x % 2) (div-self (pow-pos p)) in
+    xor-bit (2 ^ p) (powers ps) p ∙ ap₂ differ one (powers-clear p (omega arith) a)
+
+-- so a set of higher positions alone has another sum
+powers-differ : {l p : ℕ} {ps qs : List ℕ} → Ascending l (suc p) ps → Ascending l (suc p) qs → powers (p ∷ ps) ≡ powers qs → ⊥
+powers-differ {p = p} a b e = omega (arith, powers-set p a, powers-clear p (omega arith) b, ap (λ (x : ℕ). x / 2 ^ p % 2) e)
+
+-- and no two sets have the same
+powers-only : {l from to : ℕ} {ps qs : List ℕ} → Ascending l from ps → Ascending l to qs → powers ps ≡ powers qs → ps ≡ qs
+unfolding powers
+powers-only ends ends e = refl
+powers-only ends (next j k b) e = absurd (powers-differ b ends (sym e))
+powers-only (next j k a) ends e = absurd (powers-differ a ends e)
+powers-only (next {p = p} {ps = ps} j k a) (next {p = q} {ps = qs} m n b) e =
+    by-order p q (λ lower. absurd (powers-differ a (next lower n b) e))
+    (λ from.
+    by-order q p (λ lower. absurd (powers-differ b (next lower k a) (sym e)))
+    (λ to.
+    let same : p ≡ q = omega arith in
+    ap₂ _∷_ same
+    (powers-only a b
+    (sym (xor-cancel (2 ^ p) (powers ps)) ∙ ap₂ (λ (x y : ℕ). bitXor (2 ^ x) y) same e ∙ xor-cancel (2 ^ q) (powers qs)))))
+
+-- the bits that differ from a packet after a set of positions was flipped are that set
+pub difference-flips : (s ps : List ℕ) → Bytes s → Ascending (bits s) 0 ps → difference s (flips s ps) ≡ ps
+difference-flips s ps bs h =
+    let w = ascending-all h in
+    powers-only (difference-ascending s (flips s ps)) h
+    (difference-powers s (flips s ps) bs (flips-bytes s ps w bs) (sym (flips-length s ps))
+    ∙ ap (bitXor (polynomial s)) (polynomial-flips s ps w bs) ∙ xor-cancel (polynomial s) (powers ps))
+
+-- the same, counted from the packet that the flips made
+pub flips-differ : (s ps : List ℕ) → Bytes s → Ascending (bits s) 0 ps → difference (flips s ps) s ≡ ps
+flips-differ s ps bs h =
+    ap (difference (flips s ps)) (sym (flips-twice s ps bs h))
+    ∙ difference-flips (flips s ps) ps (flips-bytes s ps (ascending-all h) bs) (rw (flips-length s ps) h)
 
 -- ---- packets that agree from position n on
 
