@@ -5,14 +5,14 @@ use Prim.Native.Nat.{ℕ, _-_}
 use lib.ListN.{getD}
 use Rattle.base.specs.Refusals.{number}
 use Rattle.base.specs.declared.Refusal.{Refusal}
-use Rattle.base.specs.declared.Refusal.the-variants.{Generator, Length, Limit, Syndrome, TableLength, TableEntry, Mark, Output, Range, Field, Values, BlockShape, BlockLength}
+use Rattle.base.specs.declared.Refusal.the-variants.{Generator, Length, Limit, Syndrome, TableLength, TableEntry, Mark, Output, Range, Field, Values, BlockShape, BlockLength, Trials}
 
 -- the refusal of a number
 abbrev named : ℕ → Refusal
 named k =
-    getD (Generator ∷ Length ∷ Limit ∷ Syndrome ∷ TableLength ∷ TableEntry ∷ Mark ∷ Output ∷ Range ∷ Field ∷ Values ∷ BlockShape ∷ [])
+    getD (Generator ∷ Length ∷ Limit ∷ Syndrome ∷ TableLength ∷ TableEntry ∷ Mark ∷ Output ∷ Range ∷ Field ∷ Values ∷ BlockShape ∷ BlockLength ∷ [])
     (k - 1)
-    BlockLength
+    Trials
 
 named-number : (r : Refusal) → named (number r) ≡ r
 named-number Generator = refl
@@ -28,6 +28,7 @@ named-number Field = refl
 named-number Values = refl
 named-number BlockShape = refl
 named-number BlockLength = refl
+named-number Trials = refl
 
 -- different refusals have different numbers
 pub number-tells : (r q : Refusal) → number r ≡ number q → r ≡ q

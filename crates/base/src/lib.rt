@@ -17,6 +17,7 @@ pub enum Refusal {
     Values,
     BlockShape,
     BlockLength,
+    Trials,
 }
 
 // What testing a call's conditions in their order comes to.
@@ -43,5 +44,6 @@ pub fn number_of(refusal: Refusal) -> u32
         Refusal::Values => 11,
         Refusal::BlockShape => 12,
         Refusal::BlockLength => 13,
+        Refusal::Trials => 14,
     }
 }
