@@ -1,0 +1,3 @@
+mod TakingLaws
+mod MovedLaws
+pub mod DrawLaws
