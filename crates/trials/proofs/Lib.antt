@@ -1,0 +1,5 @@
+mod SameLaws
+pub mod CountLaws
+pub mod TrialLaws
+mod RunLaws
+pub mod RowLaws
