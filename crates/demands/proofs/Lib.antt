@@ -9,4 +9,5 @@ pub mod NoChecksum
 pub mod ZeroField
 pub mod Parity
 pub mod MadePackets
+pub mod Simulations
 pub mod WorkedRows

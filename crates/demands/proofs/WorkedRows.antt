@@ -11,10 +11,12 @@ use Rattle.maker.specs.Calls.{made}
 use Rattle.patterns.specs.Order.{keyed, span, lower, before}
 use Rattle.patterns.specs.Listing.{syndrome, choose, upTo, sift, inserted, inOrder, listing, follows}
 use Rattle.verdicts.specs.Verdicts.{passesBoth, candidates}
+use Rattle.channel.specs.Channel.{among, untaken, drawn}
+use Rattle.trials.specs.Trials.{same, counted, received, trial, trials, rowsOf, simulated}
 use Rattle.demands.specs.Worked.{Worked}
 
 pub worked-rows : Worked
-unfolding down downIn degree degreeIn reduce rem powers unfit polynomial polynomialAfter bytesOf unfitLength unfitValues asRead remainder sealed flip flips power least period step first words folded sumFrom sumOf range fieldOf passes unfitRange unfitField withField asWritten stamped nextState byteOf yielded stateAfter made keyed span lower before syndrome choose upTo sift inserted inOrder listing follows passesBoth candidates
+unfolding down downIn degree degreeIn reduce rem powers unfit polynomial polynomialAfter bytesOf unfitLength unfitValues asRead remainder sealed flip flips power least period step first words folded sumFrom sumOf range fieldOf passes unfitRange unfitField withField asWritten stamped nextState byteOf yielded stateAfter made keyed span lower before syndrome choose upTo sift inserted inOrder listing follows passesBoth candidates among untaken drawn same counted received trial trials rowsOf simulated
 worked-rows =
     record {
       row1 = refl;
@@ -41,4 +43,6 @@ worked-rows =
       row22 = (λ limit. refl, refl, refl);
       row23 = (refl, refl);
       row24 = refl;
+      row25 = refl;
+      row26 = refl;
     }

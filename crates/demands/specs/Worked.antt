@@ -17,7 +17,9 @@ use Rattle.maker.specs.Calls.{makeCall, makePacket}
 use Rattle.patterns.specs.Patterns.{after}
 use Rattle.patterns.specs.Listing.{listing}
 use Rattle.patterns.specs.Marks.{remaining}
+use Rattle.channel.specs.Channel.{drawn}
 use Rattle.verdicts.specs.Verdicts.{packetList, intact, repaired, several, nothing, verdict}
+use Rattle.trials.specs.Trials.{simulated}
 
 -- the list for a generator, L, N and a syndrome
 abbrev pub listOf : Generator → ℕ → ℕ → ℕ → List (List ℕ)
@@ -102,3 +104,15 @@ pub record Worked : Type 0 where
       × (stampPacket 53 (checkOf 0 4 0) (0xFF ∷ 0xFF ∷ 0x12 ∷ 0x34 ∷ 0x00 ∷ []) ≡ 0xED ∷ 0xCB ∷ 0x12 ∷ 0x34 ∷ 0x00 ∷ [])
   -- 13, N 3, syndrome 4, L 6: {2},{4,5},{0,3},{0,1,4},{1,3,5}
   pub row24 : listOf (generatorOf 13) 6 3 4 ≡ (2 ∷ []) ∷ (4 ∷ 5 ∷ []) ∷ (0 ∷ 3 ∷ []) ∷ (0 ∷ 1 ∷ 4 ∷ []) ∷ (1 ∷ 3 ∷ 5 ∷ []) ∷ []
+  -- eight draws from state 0, L 24: {2,4,7,10,14,15,17,21}
+  pub row25 : drawn 24 8 0 ≡ 2 ∷ 4 ∷ 7 ∷ 10 ∷ 14 ∷ 15 ∷ 17 ∷ 21 ∷ []
+  -- 11, three bytes, range [0,2), field 0, N 2, two trials from seed FFFFFFFFh: rows 0 to 4, and each none twice; 3F963805h; EF 7E 79; FF FF 79
+  pub row26 : simulated (crcOf 11 0 0) firstTwo 2 2 0xFFFFFFFF (0 ∷ 0 ∷ 0 ∷ []) (0 ∷ 0 ∷ 0 ∷ [])
+      ≡ record {
+        state = 0x3F963805;
+        packet = 0xEF ∷ 0x7E ∷ 0x79 ∷ [];
+        output = 0xFF ∷ 0xFF ∷ 0x79 ∷ [];
+        counts =
+            (2 ∷ 0 ∷ 0 ∷ 0 ∷ 0 ∷ []) ∷ (0 ∷ 1 ∷ 0 ∷ 1 ∷ 0 ∷ []) ∷ (0 ∷ 2 ∷ 0 ∷ 0 ∷ 0 ∷ []) ∷ (0 ∷ 0 ∷ 0 ∷ 0 ∷ 2 ∷ []) ∷ (0 ∷ 0 ∷ 1 ∷ 0 ∷ 1 ∷ [])
+            ∷ (0 ∷ 0 ∷ 0 ∷ 0 ∷ 2 ∷ []) ∷ (0 ∷ 0 ∷ 0 ∷ 0 ∷ 2 ∷ []) ∷ (0 ∷ 0 ∷ 0 ∷ 0 ∷ 2 ∷ []) ∷ (0 ∷ 0 ∷ 0 ∷ 0 ∷ 2 ∷ []) ∷ [];
+      }
