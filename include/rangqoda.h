@@ -5,12 +5,14 @@
  * part of its bytes, or none. The library takes remainders and seals packets,
  * sums and stamps them, makes packets from a seed, lists all sets of at most so
  * many bit errors that explain a remainder, strikes those that the checksum
- * contradicts, and repairs a packet where just one is left. Apart from packets,
- * it scatters bytes before storage and gathers them again.
+ * contradicts, and repairs a packet where just one is left. It tries settings on
+ * packets that it makes and damages itself. Apart from packets, it scatters bytes
+ * before storage and gathers them again.
  *
  * Link with librangqoda.a (x86-64 Linux). Nothing is allocated, kept between
  * calls or shared: calls on different memory may run at the same time. A page
- * and a repair take less than 18 KiB of stack, the other calls less than 1 KiB.
+ * and a repair take less than 18 KiB of stack, a simulation less than 20, and
+ * the other calls less than 1.
  *
  * "rt staticlib rangqoda" makes the archive, target/staticlib/librangqoda.a,
  * and proves it first. The test command clears target/, and the archive goes
@@ -88,14 +90,16 @@
  *    6  a table entry wrong
  *    7  mark: the pattern not strictly ascending, a position not below L, more
  *       positions than the limit; or bytes that are no mark (see below)
- *    8  output: of a page, below 9 bytes; of a repair, not as long as the
- *       packet, or a verdict not of RANGQODA_VERDICT_BYTES
+ *    8  output: of a page, below 9 bytes; of a repair or a simulation, not as
+ *       long as the packet; a verdict not of RANGQODA_VERDICT_BYTES, or counts
+ *       not of RANGQODA_COUNTS
  *    9  start > end, or 8 * end > L - n
  *   10  field not whole in the range, or not an even number of bytes from its
  *       start; of a repair, only where start < end
  *   11  initial or final value 2^n or more
  *   12  rows or columns 0 or above 64
  *   13  input or output not of rows * columns bytes
+ *   14  trials 0 or above 65535
  *
  *
  * Memory
@@ -201,7 +205,7 @@
  *
  * So choose the least N that the channel needs, publish it beside the number
  * of repairs, and hold these for doubtful where many verdicts are
- * RANGQODA_NONE.
+ * RANGQODA_NONE. rangqoda_simulate counts all this for other settings.
  *
  * Drop-outs of zeros are worse than noise. Where a recording puts zeros in the
  * place of lost bytes, the field may be among them, and a field of zero asks for
@@ -298,7 +302,7 @@ extern "C" {
 
 /* The version, which moves with CHANGELOG.md. */
 #define RANGQODA_VERSION_MAJOR 0
-#define RANGQODA_VERSION_MINOR 10
+#define RANGQODA_VERSION_MINOR 11
 #define RANGQODA_VERSION_PATCH 0
 
 /* Before a declaration: the compiler warns where the answer is not read. */
@@ -423,6 +427,7 @@ extern "C" {
 #define RANGQODA_REFUSED_VALUES 11u
 #define RANGQODA_REFUSED_BLOCK_SHAPE 12u
 #define RANGQODA_REFUSED_BLOCK_LENGTH 13u
+#define RANGQODA_REFUSED_TRIALS 14u
 
 /* The first-position table's entry where no power of x leaves the remainder. */
 #define RANGQODA_NO_POSITION 65535u
@@ -441,6 +446,18 @@ extern "C" {
 #define RANGQODA_REPAIRED 1u
 #define RANGQODA_SEVERAL 2u
 #define RANGQODA_NONE 3u
+
+/* The counts of a simulation: a row for each number of flipped bits, 0 to
+   RANGQODA_MOST_FLIPS, and in each row these five. Row f, column c is
+   counts[f * RANGQODA_COLUMNS + c]. */
+#define RANGQODA_MOST_FLIPS 8
+#define RANGQODA_COLUMNS 5
+#define RANGQODA_COUNTS (RANGQODA_COLUMNS * (RANGQODA_MOST_FLIPS + 1))
+#define RANGQODA_COUNT_INTACT 0u
+#define RANGQODA_COUNT_REPAIRED_TO_MADE 1u
+#define RANGQODA_COUNT_REPAIRED_OTHERWISE 2u
+#define RANGQODA_COUNT_SEVERAL 3u
+#define RANGQODA_COUNT_NONE 4u
 
 /* What rangqoda_publish answers. */
 #define RANGQODA_PUBLISH_RECEIVED 0u
@@ -665,6 +682,58 @@ uint32_t rangqoda_repair(uint64_t generator, uint64_t initial, uint64_t final,
  */
 RANGQODA_ANSWER
 uint32_t rangqoda_publish(const uint8_t *verdict, size_t verdict_len);
+
+/*
+ * Tries settings on packets that are made and damaged: what a limit buys, before
+ * it is set. For each number of flipped bits from 0 to RANGQODA_MOST_FLIPS, in
+ * turn, it runs so many trials. In a trial
+ *
+ *   - a packet of packet_len bytes is made, as rangqoda_make does, from the
+ *     state at hand, which is the seed to begin with and then runs on;
+ *   - as many different positions as are to flip are drawn: draw i, counted from
+ *     0, is the next state of that stream modulo L - i, and picks that place,
+ *     counted from 0, among the positions not yet taken, ascending;
+ *   - the bits there flip, and the packet is repaired as by rangqoda_repair;
+ *   - the verdict is counted in the row of that number of flips:
+ *       RANGQODA_COUNT_INTACT             the packet passes both checks
+ *       RANGQODA_COUNT_REPAIRED_TO_MADE   repaired to the packet made
+ *       RANGQODA_COUNT_REPAIRED_OTHERWISE repaired to another: a false repair
+ *       RANGQODA_COUNT_SEVERAL            several patterns pass
+ *       RANGQODA_COUNT_NONE               none passes
+ *
+ * The counts of each row add up to the trials. Without flips all are intact.
+ * With at most limit flips no packet is repaired otherwise, and of none it is
+ * said that nothing passes. With flips, intact is said of a damaged packet that
+ * happens to pass both checks.
+ *
+ * The tables are those of rangqoda_tables; every entry is verified, once for all
+ * trials. output_len is packet_len, counts_len is RANGQODA_COUNTS.
+ *
+ * Refused by 1, 2, 11, 3, 5, 6, 8, 9, 10, 14, and so by 10 for an accepted range
+ * with start = end, which has no field to stamp. Otherwise writes all counts; the
+ * packet, which ends as it was last received; output, which ends as a repair last
+ * left it, and so stays where none was repaired; and into *state the state after
+ * the last draw. For more trials pass it as the next seed.
+ *
+ * It models bits that flip each for itself. Real channels have bursts and
+ * drop-outs, which it does not.
+ *
+ * A trial takes as long as a repair without the verification of the tables, so
+ * that 9 * trials of them may take hours at limits of 3 and 4: a call cannot be
+ * interrupted. Calls with fewer trials that pass the state on end sooner, and
+ * count other packets than one call of all trials, since each begins with no
+ * flips again.
+ */
+RANGQODA_ANSWER
+uint32_t rangqoda_simulate(uint64_t generator, uint64_t initial, uint64_t final,
+                           uint32_t seed, size_t start, size_t end,
+                           size_t field, size_t limit, uint64_t trials,
+                           const uint16_t *step, size_t step_len,
+                           const uint16_t *first, size_t first_len,
+                           uint8_t *packet, size_t packet_len,
+                           uint8_t *output, size_t output_len,
+                           uint32_t *counts, size_t counts_len,
+                           uint32_t *state);
 
 #ifdef __cplusplus
 }

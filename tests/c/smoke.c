@@ -924,6 +924,109 @@ static void no_checksum(void)
     EXPECT(state == 77 && memcmp(packet, sent, 3) == 0);
 }
 
+/* The simulation, held to one by the other calls: packets made from the running state, positions drawn from a list of those that are
+   left, flips by hand, and a repair of each. */
+static void simulated(uint64_t generator, uint64_t initial, uint64_t final, size_t entries, uint32_t seed, size_t end, size_t field,
+                      size_t limit, uint64_t trials, size_t len)
+{
+    uint8_t packet[16], output[16], sent[16], received[16], copy[16], verdict[RANGQODA_VERDICT_BYTES];
+    uint32_t counts[RANGQODA_COUNTS], due[RANGQODA_COUNTS] = { 0 }, state = 77, now = seed;
+    uint64_t period, wrong = 0;
+
+    memset(packet, 0x55, sizeof packet);
+    memset(output, 0xAA, sizeof output);
+    memset(copy, 0xAA, sizeof copy);
+    memset(counts, 0xFF, sizeof counts);
+    EXPECT(rangqoda_tables(generator, step, entries, first, entries, &period) == RANGQODA_ACCEPTED);
+    EXPECT(rangqoda_simulate(generator, initial, final, seed, 0, end, field, limit, trials, step, entries, first, entries, packet, len,
+                             output, len, counts, RANGQODA_COUNTS, &state) == RANGQODA_ACCEPTED);
+    for (unsigned flips = 0; flips <= RANGQODA_MOST_FLIPS; flips++) {
+        for (uint64_t k = 0; k < trials; k++) {
+            size_t left[128], bits = 8 * len, column;
+
+            wrong += rangqoda_make(generator, initial, final, now, 0, end, field, sent, len, &now) != RANGQODA_ACCEPTED;
+            memcpy(received, sent, len);
+            for (size_t p = 0; p < bits; p++)
+                left[p] = p;
+            for (unsigned i = 0; i < flips; i++) {
+                now = 1664525u * now + 1013904223u;
+                size_t place = now % (bits - i), p = left[place];
+                received[len - 1 - p / 8] ^= (uint8_t)(1u << p % 8);
+                memmove(left + place, left + place + 1, (bits - i - 1 - place) * sizeof left[0]);
+            }
+            wrong += rangqoda_repair(generator, initial, final, 0, end, field, limit, step, entries, first, entries, received, len, copy,
+                                     len, verdict, sizeof verdict) != RANGQODA_ACCEPTED;
+            column = verdict[0] == RANGQODA_INTACT     ? RANGQODA_COUNT_INTACT
+                     : verdict[0] == RANGQODA_SEVERAL  ? RANGQODA_COUNT_SEVERAL
+                     : verdict[0] == RANGQODA_NONE     ? RANGQODA_COUNT_NONE
+                     : memcmp(copy, sent, len) == 0    ? RANGQODA_COUNT_REPAIRED_TO_MADE
+                                                       : RANGQODA_COUNT_REPAIRED_OTHERWISE;
+            due[flips * RANGQODA_COLUMNS + column]++;
+        }
+    }
+    EXPECT(wrong == 0);
+    EXPECT(memcmp(counts, due, sizeof counts) == 0);
+    EXPECT(state == now);
+    EXPECT(memcmp(packet, received, len) == 0 && memcmp(output, copy, sizeof output) == 0);
+    for (size_t f = 0; f <= RANGQODA_MOST_FLIPS; f++) {
+        const uint32_t *row = counts + f * RANGQODA_COLUMNS;
+        EXPECT((uint64_t)row[0] + row[1] + row[2] + row[3] + row[4] == trials);
+        EXPECT(f > limit || (row[RANGQODA_COUNT_REPAIRED_OTHERWISE] == 0 && row[RANGQODA_COUNT_NONE] == 0));
+    }
+    EXPECT(counts[RANGQODA_COUNT_INTACT] == trials);
+}
+
+static void simulations(void)
+{
+    simulated(RANGQODA_FIVE, 0, 0, 32, 0, 2, 0, 1, 1, 3);
+    simulated(RANGQODA_FIVE, 31, 9, 32, 0xFFFFFFFFu, 2, 0, 2, 200, 3);
+    simulated(11, 3, 5, 8, 7, 4, 2, 3, 100, 6);
+    simulated(RANGQODA_CRC_16_GENIBUS, ENTRIES, 5, 14, 12, 2, 20, 16);
+    simulated(RANGQODA_CRC_16_XMODEM, ENTRIES, 1, 6, 4, 4, 10, 8);
+}
+
+/* The conditions of a simulation, each alone and every two at once: the first in the order 1, 2, 11, 3, 5, 6, 8, 9, 10, 14 is the
+   answer, and nothing changes. */
+static void simulation_refused_in_order(void)
+{
+    static const uint32_t order[] = { 1, 2, 11, 3, 5, 6, 8, 9, 10, 14 };
+    static const uint64_t many[] = { 0, 65536, (uint64_t)1 << 32 | 1, UINT64_MAX };
+    static const size_t rooms[][2] = { { 8, 44 }, { 8, 46 }, { 7, RANGQODA_COUNTS }, { 9, RANGQODA_COUNTS } };
+    uint8_t nines[9];
+    uint32_t same[46];
+    uint64_t period;
+
+    memset(nines, 9, sizeof nines);
+    memset(same, 9, sizeof same);
+    for (size_t k = 0; k < 4 * 100; k++) {
+        size_t a = k / 40, b = k / 4 % 10, way = k % 4;
+        unsigned broken = 1u << order[a] | 1u << order[b];
+        uint64_t generator = broken & 1u << 1 ? 52 : RANGQODA_FIVE, initial = broken & 1u << 11 ? 32 : 31;
+        size_t entries = broken & 1u << 5 ? 31 : 32, limit = broken & 1u << 3 ? way % 2 * 5 : 1, len = broken & 1u << 2 ? 0 : 8;
+        size_t room = broken & 1u << 8 ? rooms[way][0] : len, places = broken & 1u << 8 ? rooms[way][1] : RANGQODA_COUNTS;
+        size_t start = broken & 1u << 9 ? 8 : 0, end = 7, field = broken & 1u << 10 ? 1 : 4;
+        uint64_t trials = broken & 1u << 14 ? many[way] : 1;
+        uint8_t packet[9], output[9];
+        uint32_t counts[46], state = 77;
+
+        memcpy(packet, nines, sizeof packet);
+        memcpy(output, nines, sizeof output);
+        memcpy(counts, same, sizeof counts);
+        EXPECT(rangqoda_tables(RANGQODA_FIVE, step, 32, first, 32, &period) == RANGQODA_ACCEPTED);
+        step[1] ^= broken & 1u << 6 ? 1 : 0;
+        EXPECT(rangqoda_simulate(generator, initial, 31, 5, start, end, field, limit, trials, step, entries, first, 32, packet, len, output,
+                                 room, counts, places, &state) == order[a < b ? a : b]);
+        EXPECT(state == 77 && memcmp(packet, nines, sizeof packet) == 0 && memcmp(output, nines, sizeof output) == 0);
+        EXPECT(memcmp(counts, same, sizeof counts) == 0);
+    }
+    /* an accepted range without bytes has no field to stamp */
+    uint8_t packet[8] = { 0 }, output[8] = { 0 };
+    uint32_t counts[RANGQODA_COUNTS], state;
+    EXPECT(rangqoda_tables(RANGQODA_FIVE, step, 32, first, 32, &period) == RANGQODA_ACCEPTED);
+    EXPECT(rangqoda_simulate(RANGQODA_FIVE, 0, 0, 5, RANGQODA_NO_CHECKSUM, 1, 1, step, 32, first, 32, packet, 8, output, 8, counts,
+                             RANGQODA_COUNTS, &state) == RANGQODA_REFUSED_FIELD);
+}
+
 /* One way of rearranging a block, of at most 65 times 65 bytes, with a byte on either side of both slices that is not lent. The input is
    1 to 251, over and over, and all else EEh before. Tells how many things are wrong: the answer, bytes of the input or not lent that
    changed, bytes of the output. */
@@ -1020,6 +1123,8 @@ int main(void)
     repair_refused_in_order();
     verdicts_by_brute_force();
     no_checksum();
+    simulations();
+    simulation_refused_in_order();
     blocks();
     printf("%d checks, %d failed\n", checks, failures);
     return failures != 0;

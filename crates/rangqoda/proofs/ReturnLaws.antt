@@ -17,6 +17,7 @@ use Rattle.crc.specs.Calls.{packetConditions, remainderCall, sealCall}
 use Rattle.checksum.specs.declared.Check.{Check}
 use Rattle.checksum.specs.Calls.{stampConditions, stampCall}
 use Rattle.maker.specs.Calls.{makeConditions, makeCall}
+use Rattle.simulation.specs.Calls.{Simulation, simulateConditions, simulateCall}
 use Rattle.tables.specs.Calls.{tablesConditions, tablesCall}
 use Rattle.patterns.specs.Patterns.{Point}
 use Rattle.pages.specs.Conditions.{Request, pageConditions}
@@ -75,6 +76,9 @@ stamp-tells generator check packet = judged-tells (stampConditions generator (bi
 
 pub make-tells : (c : Crc) (seed : ℕ) (check : Check) (packet : List ℕ) → Tells (makeCall c seed check packet)
 make-tells c seed check packet = judged-tells (makeConditions c (bits packet) check) _ refl
+
+pub simulate-tells : (r : Simulation) → Tells (simulateCall r)
+simulate-tells r = judged-tells (simulateConditions r) _ refl
 
 pub tables-tells : (generator : ℕ) (steps firsts : List ℕ) → Tells (tablesCall generator steps firsts)
 tables-tells generator steps firsts = judged-tells (tablesConditions generator (length steps) (length firsts)) _ refl

@@ -8,6 +8,7 @@ use maker::MakeAnswer;
 use pages::PageAnswer;
 use repair::RepairAnswer;
 use scatter::BlockAnswer;
+use simulation::SimulateAnswer;
 use tables::TablesAnswer;
 ghost use mathlib.Core.Path.{_≡_};
 ghost use lib.Dec.{eqb};
@@ -21,6 +22,13 @@ ghost use Rattle.tables.specs.Calls.{tablesCall, stepsAfter, firstsAfter};
 ghost use Rattle.pages.specs.Conditions.{pageRequest};
 ghost use Rattle.pages.specs.Calls.{pageCall, pageLeft};
 ghost use Rattle.repair.specs.Calls.{repairCall};
+ghost use Rattle.simulation.specs.Calls.{
+  simulation,
+  simulateCall,
+  simulatePacket,
+  simulateOutput,
+  simulateCounts,
+};
 ghost use Rattle.scatter.specs.Calls.{blockAnswer, blockCall, scatterOutput, gatherOutput};
 ghost use Rattle.codec.specs.Marks.{pointOfBytes};
 ghost use Rattle.codec.specs.Verdicts.{verdictLength, publishCode};
@@ -249,6 +257,54 @@ pub extern "C" fn rangqoda_repair(
         RepairAnswer::Refused(r) => base::number_of(r),
         RepairAnswer::Decided(v) => {
             codec::put_verdict(v, verdict);
+            0
+        }
+    }
+}
+
+#[no_mangle]
+pub extern "C" fn rangqoda_simulate(
+    generator: u64,
+    init: u64,
+    xorout: u64,
+    seed: u32,
+    start: usize,
+    end: usize,
+    field: usize,
+    limit: usize,
+    trials: u64,
+    step: &[u16],
+    first: &[u16],
+    packet: &mut [u8],
+    output: &mut [u8],
+    counts: &mut [u32],
+    state: &mut u32,
+) -> u32
+    ensures answer { λ r. ⌜ r ≡ code (simulateCall (simulation (crcOf generator init xorout) seed (checkOf start end field) limit trials (now (step .entry)) (now (first .entry)) (now (packet .entry)) (now (output .entry)) (now (counts .entry)))) ⌝ }
+    ensures packet { λ _. ⌜ now (packet .exit) ≡ simulatePacket (simulation (crcOf generator init xorout) seed (checkOf start end field) limit trials (now (step .entry)) (now (first .entry)) (now (packet .entry)) (now (output .entry)) (now (counts .entry))) ⌝ }
+    ensures output { λ _. ⌜ now (output .exit) ≡ simulateOutput (simulation (crcOf generator init xorout) seed (checkOf start end field) limit trials (now (step .entry)) (now (first .entry)) (now (packet .entry)) (now (output .entry)) (now (counts .entry))) ⌝ }
+    ensures counts { λ _. ⌜ now (counts .exit) ≡ simulateCounts (simulation (crcOf generator init xorout) seed (checkOf start end field) limit trials (now (step .entry)) (now (first .entry)) (now (packet .entry)) (now (output .entry)) (now (counts .entry))) ⌝ }
+    ensures state { λ _. ⌜ now (state .exit) ≡ changed (now (state .entry)) (λ v. v) (simulateCall (simulation (crcOf generator init xorout) seed (checkOf start end field) limit trials (now (step .entry)) (now (first .entry)) (now (packet .entry)) (now (output .entry)) (now (counts .entry)))) ⌝ }
+{
+    let check = checksum::check_of(start, end, field);
+    let answer = simulation::simulate(
+        generator,
+        init,
+        xorout,
+        seed,
+        check,
+        limit,
+        trials,
+        step,
+        first,
+        packet,
+        output,
+        counts,
+    );
+    match answer {
+        SimulateAnswer::Refused(r) => base::number_of(r),
+        SimulateAnswer::Simulated(after) => {
+            *state = after;
             0
         }
     }
