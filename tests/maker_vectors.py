@@ -9,7 +9,7 @@ from anywhere:
 """
 from pathlib import Path
 
-from reference import CCITT, FIVE, checksum, filled, fnv, next_state, remainder_of, stamped
+from reference import CCITT, FIVE, checksum, fnv, made, next_state
 from reference import unfit_field, unfit_generator, unfit_length, unfit_range, unfit_values
 
 TARGET = Path(__file__).resolve().parent.parent / "crates" / "maker_test" / "stdout"
@@ -61,15 +61,6 @@ def refusal(generator, initial, final, start, end, field, length):
     if unfit_field(start, end, field):
         return 10
     return 0
-
-
-def made(generator, initial, final, seed, start, end, field, length):
-    """The packet: the bytes drawn, with the field made to fit the range and then the last bits made to leave nothing."""
-    packet = stamped(filled(length, seed), start, end, field)
-    value = int.from_bytes(packet, "big") ^ remainder_of(packet, generator, initial, final)
-    packet = value.to_bytes(length, "big")
-    assert checksum(packet[start:end]) == 0xFFFF and remainder_of(packet, generator, initial, final) == 0
-    return packet
 
 
 # the first states after 0, written out; docs/DECISIONS.md says where they are from

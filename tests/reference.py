@@ -155,6 +155,32 @@ def stamped(packet, start, end, field):
     return packet[:field] + (computed or 0xFFFF).to_bytes(2, "big") + packet[field + 2 :]
 
 
+def flip(packet, positions):
+    """The packet with the bits at some positions flipped."""
+    value = int.from_bytes(packet, "big")
+    for p in positions:
+        value ^= 1 << p
+    return value.to_bytes(len(packet), "big")
+
+
+def listing(generator, limit, packet, values=(0, 0)):
+    """The list for a packet."""
+    return listed(generator, 8 * len(packet), limit, remainder_of(packet, generator, *values))
+
+
+def verdict(generator, check, limit, packet, values=(0, 0), passing=passes):
+    """The verdict: its kind, and the patterns that pass, in order. A check is the range's start and end, and the field."""
+    if remainder_of(packet, generator, *values) == 0 and passing(packet, *check):
+        return "intact", []
+    found = [p for p in listing(generator, limit, packet, values) if passing(flip(packet, p), *check)]
+    return ("none", "repaired", "several")[min(len(found), 2)], found
+
+
+def sealed(packet, generator, values=(0, 0)):
+    """The packet whose last bits make the remainder 0."""
+    return (int.from_bytes(packet, "big") ^ remainder_of(packet, generator, *values)).to_bytes(len(packet), "big")
+
+
 def next_state(state):
     """The state of the packet maker's stream after this one."""
     return (1664525 * state + 1013904223) % 2**32
@@ -168,6 +194,13 @@ def filled(length, seed):
         seed = next_state(seed)
         out.append(seed >> 24)
     return bytes(out)
+
+
+def made(generator, initial, final, seed, start, end, field, length):
+    """The packet: the bytes yielded, with the field made to fit the range and then the last bits made to leave nothing."""
+    packet = sealed(stamped(filled(length, seed), start, end, field), generator, (initial, final))
+    assert checksum(packet[start:end]) == 0xFFFF and remainder_of(packet, generator, initial, final) == 0
+    return packet
 
 
 def fnv(data, before=2166136261):

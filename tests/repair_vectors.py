@@ -12,33 +12,13 @@ from itertools import combinations, product
 from pathlib import Path
 from random import Random
 
-from reference import CCITT, FIVE, MOST_POSITIONS, checksum, degree_of, filled, fnv, listed, passes, remainder_of, stamped
+from reference import CCITT, FIVE, MOST_POSITIONS, checksum, degree_of, filled, flip, fnv, listing, passes, remainder_of, sealed, stamped, verdict
 from reference import unfit_check_field, unfit_generator, unfit_length, unfit_limit, unfit_range, unfit_values
 
 TARGET = Path(__file__).resolve().parent.parent / "crates" / "repair_test"
 THREE, EIGHT = 11, 0x107  # degrees 3 and 8
 
 random = Random(1071)
-
-
-def flip(packet, positions):
-    value = int.from_bytes(packet, "big")
-    for p in positions:
-        value ^= 1 << p
-    return value.to_bytes(len(packet), "big")
-
-
-def listing(generator, limit, packet, values=(0, 0)):
-    """The list for a packet."""
-    return listed(generator, 8 * len(packet), limit, remainder_of(packet, generator, *values))
-
-
-def verdict(generator, check, limit, packet, values=(0, 0), passing=passes):
-    """The verdict: its kind, and the patterns that pass, in order. A check is the range's start and end, and the field."""
-    if remainder_of(packet, generator, *values) == 0 and passing(packet, *check):
-        return "intact", []
-    found = [p for p in listing(generator, limit, packet, values) if passing(flip(packet, p), *check)]
-    return ("none", "repaired", "several")[min(len(found), 2)], found
 
 
 def always_summed(packet, a, e, field):
@@ -130,10 +110,6 @@ class Group:
         self.given.append(" ".join(map(str, [*given, len(packet), *data, room, first, count])))
         for positions in ((), *((p,) for p in range(first, first + count))):
             self.expected.append(self.line(generator, values, (a, e, field), limit, flip(packet, positions), room))
-
-
-def sealed(packet, generator, values=(0, 0)):
-    return (int.from_bytes(packet, "big") ^ remainder_of(packet, generator, *values)).to_bytes(len(packet), "big")
 
 
 def sent(generator, length, a, e, values=(0, 0)):
