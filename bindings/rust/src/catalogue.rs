@@ -114,3 +114,19 @@ aliases! {
     CRC_16_V_41_MSB "CRC-16/V-41-MSB" CRC_16_XMODEM
     ZMODEM "ZMODEM" CRC_16_XMODEM
 }
+
+/// The CRC that a name stands for, of [`ALL`] or of [`ALIASES`], in capitals or not.
+///
+/// ```
+/// use rangqoda::catalogue::{by_name, CRC_16_IBM_3740};
+///
+/// assert_eq!(by_name("CRC-16/IBM-3740"), Some(CRC_16_IBM_3740));
+/// assert_eq!(by_name("crc-16/ccitt-false"), Some(CRC_16_IBM_3740));
+///
+/// // reflected, and so not here
+/// assert_eq!(by_name("CRC-16/KERMIT"), None);
+/// ```
+#[must_use]
+pub fn by_name(name: &str) -> Option<Crc> {
+    ALL.iter().chain(ALIASES).find(|(called, _)| called.eq_ignore_ascii_case(name)).map(|&(_, crc)| crc)
+}

@@ -114,5 +114,29 @@ extern "C" {
     ) -> u32;
 
     #[must_use]
+    pub fn rangqoda_simulate(
+        generator: u64,
+        init: u64,
+        xorout: u64,
+        seed: u32,
+        start: usize,
+        end: usize,
+        field: usize,
+        limit: usize,
+        trials: u64,
+        step: *const u16,
+        step_len: usize,
+        first: *const u16,
+        first_len: usize,
+        packet: *mut u8,
+        packet_len: usize,
+        output: *mut u8,
+        output_len: usize,
+        counts: *mut u32,
+        counts_len: usize,
+        state: *mut u32,
+    ) -> u32;
+
+    #[must_use]
     pub fn rangqoda_publish(verdict: *const u8, verdict_len: usize) -> u32;
 }

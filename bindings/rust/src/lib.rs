@@ -3,8 +3,8 @@
 //! A packet ends in a CRC and carries an Internet checksum (RFC 1071) over a part of its bytes, or none ([`NO_CHECKSUM`]). This
 //! crate takes [`remainder`]s and [`seal`]s packets, [`sum`]s and [`stamp`]s them, [`make`]s packets from a seed, lists all sets
 //! of at most so many bit errors that explain a remainder ([`page`], [`Tables::patterns`]), strikes those that the checksum
-//! contradicts, and [`repair`]s a packet where just one is left. Apart from packets, it [`scatter`]s bytes before storage and
-//! [`gather`]s them again.
+//! contradicts, and [`repair`]s a packet where just one is left. It [`simulate`]s a channel, to try settings on. Apart from packets, it
+//! [`scatter`]s bytes before storage and [`gather`]s them again.
 //!
 //! It is a safe wrapper over the C functions of a library whose every function is proved to meet its contract. The
 //! wrapper itself is not proved; it judges nothing, and passes every number, length and slice on as it got it. Whatever is
@@ -77,6 +77,21 @@
 //! initial value helps there, and not where a part of the packet is left. So prefer a CRC with an initial value, leave packets of
 //! zeros out before they come to a repair, and where the sender always stamps, hold a repair that ends in a field of zero for doubtful.
 //!
+//! # What a limit buys
+//!
+//! [`simulate`] shows it before the limit is set. It makes packets, flips 0 to 8 bits of each, and counts how many are repaired to the
+//! packet made, how many otherwise, and how many not at all. Call it with the CRC, the length, the range and the field that are
+//! planned, at each N that comes into question, and compare the rows. The example `simulate` prints them as a table, with a footnote
+//! from which anyone can make it again.
+//!
+//! It models independent flips: each draw picks any of the positions that are left. Bursts and drop-outs are no such flips, and the rows
+//! say nothing of them. Nor do they say how many bits flip in a packet: that is the channel's. Every packet that is tried carries a
+//! checksum.
+//!
+//! The draws are no better than the stream that the packets are made from. Its low bits repeat soon, and so the first draw of a trial
+//! may take few of the positions: with 60 bytes and four flips, 15 of 480. Where counts were compared with those of independent draws,
+//! they agreed within chance.
+//!
 //! # How long it takes
 //!
 //! Each page and each repair verifies both tables, 0.05 ms for degree 16. Beyond that a repair takes time as L^(N-1): with
@@ -89,6 +104,9 @@
 //! ones, or the other way round, the time is that of N - 1 (at N = 1, of verifying the tables); if not, the list is
 //! about twice as long. A call cannot be interrupted, and small pages do not bound its time: a page searches until its
 //! next record or the end of the list.
+//!
+//! A simulation verifies the tables once in a call, however many trials it has: with [`CCITT`], 64 bytes and N = 1 a trial takes half a
+//! microsecond. So a call with many trials is cheaper than many calls.
 //!
 //! Of an intact packet a repair spends nearly all its time on the tables. [`remainder`] and [`sum`] need none, and take 0.2
 //! microseconds for 64 bytes and 1.8 for 512. So take them first, and repair only what is damaged: the answer is the same, and a stream
@@ -156,12 +174,14 @@ mod crc;
 pub mod ffi;
 mod pattern;
 mod refusal;
+mod simulation;
 mod tables;
 
 pub use calls::{gather, hand_back, make, remainder, repair, scatter, seal, stamp, sum, NO_CHECKSUM};
 pub use crc::{Crc, CCITT, FIVE};
 pub use pattern::{Mark, Pattern, Verdict, MARK_BYTES, MOST_POSITIONS, RECORD_BYTES, VERDICT_BYTES};
 pub use refusal::Refusal;
+pub use simulation::{simulate, Counts, Simulation, MOST_FLIPS};
 pub use tables::{build_tables, page, Page, Patterns, TableSlices, Tables, NO_POSITION};
 
 /// The version of this crate, which is that of the header and of the changes for callers: see `CHANGELOG.md`.

@@ -22,12 +22,13 @@ pub enum Refusal {
     TableEntry = 6,
     /// 7: the mark's pattern is not strictly ascending, has a position not below L, or more positions than the limit.
     Mark = 7,
-    /// 8: the output of a page has less than 9 bytes; that of a repair is not as long as the packet.
+    /// 8: the output of a page has less than 9 bytes; that of a repair or a simulation is not as long as the packet; the counts of a
+    /// simulation are not 45.
     Output = 8,
     /// 9: the range ends before its start, or reaches into the CRC.
     Range = 9,
     /// 10: the field is not whole in the range, or not an even number of bytes from its start; of a repair, only where the range has
-    /// a byte.
+    /// a byte. A simulation, like `make`, refuses an empty range by it.
     Field = 10,
     /// 11: the initial or the final value is 2^n or more.
     Values = 11,
@@ -35,11 +36,13 @@ pub enum Refusal {
     BlockShape = 12,
     /// 13: a block's input or output has not as many bytes as rows times columns.
     BlockLength = 13,
+    /// 14: no trials, or more than 65,535.
+    Trials = 14,
 }
 
 impl Refusal {
     /// Every refusal, lowest number first.
-    pub const ALL: [Refusal; 13] = [
+    pub const ALL: [Refusal; 14] = [
         Refusal::Generator,
         Refusal::Length,
         Refusal::Limit,
@@ -53,9 +56,10 @@ impl Refusal {
         Refusal::Values,
         Refusal::BlockShape,
         Refusal::BlockLength,
+        Refusal::Trials,
     ];
 
-    /// The number of the condition, 1 to 13.
+    /// The number of the condition, 1 to 14.
     #[must_use]
     pub const fn number(self) -> u32 {
         self as u32
@@ -78,6 +82,7 @@ impl fmt::Display for Refusal {
             Refusal::Values => "the initial or the final value does not fit the degree",
             Refusal::BlockShape => "the rows or the columns are outside 1 to 64",
             Refusal::BlockLength => "the input or the output has not as many bytes as rows times columns",
+            Refusal::Trials => "the number of trials is outside 1 to 65535",
         };
         write!(f, "refused {}: {}", self.number(), what)
     }
@@ -90,7 +95,7 @@ impl Error for Refusal {}
 pub(crate) fn judged(number: u32) -> Result<(), Refusal> {
     match number {
         0 => Ok(()),
-        1..=13 => Err(Refusal::ALL[number as usize - 1]),
+        1..=14 => Err(Refusal::ALL[number as usize - 1]),
         _ => unreachable!("the library answered {number}, which names no condition"),
     }
 }

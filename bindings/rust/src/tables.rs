@@ -1,7 +1,7 @@
 //! Tables, and the lists that are read with them.
 
 use crate::refusal::judged;
-use crate::{ffi, repair, Crc, Mark, Pattern, Refusal, Verdict};
+use crate::{ffi, repair, simulate, Crc, Mark, Pattern, Refusal, Simulation, Verdict};
 use std::ops::Range;
 
 /// The entry of a first-position table where no power of x leaves the remainder.
@@ -185,6 +185,22 @@ impl Tables {
         output: &mut [u8],
     ) -> Result<Verdict, Refusal> {
         repair(crc, range, field, limit, self.as_slices(), packet, output)
+    }
+
+    /// [`simulate`] with these tables. They have to be those of the CRC's generator: others are refused by 5 or 6.
+    #[allow(clippy::too_many_arguments)] // those of `simulate`
+    pub fn simulate(
+        &self,
+        crc: Crc,
+        seed: u32,
+        range: Range<usize>,
+        field: usize,
+        limit: usize,
+        trials: u64,
+        packet: &mut [u8],
+        output: &mut [u8],
+    ) -> Result<Simulation, Refusal> {
+        simulate(crc, seed, range, field, limit, trials, self.as_slices(), packet, output)
     }
 
     /// Every pattern of a list, in its order: of as many positions the narrower come first. Refused by 2, 3, 4.

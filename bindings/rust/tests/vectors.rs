@@ -4,7 +4,7 @@
 mod reference;
 
 use rangqoda::{
-    catalogue, gather, hand_back, make, page, remainder, repair, scatter, seal, stamp, sum, Crc, Mark, Pattern,
+    catalogue, gather, hand_back, make, page, remainder, repair, scatter, seal, stamp, sum, Counts, Crc, Mark, Pattern,
     Refusal, TableSlices, Tables, Verdict, CCITT, FIVE, NO_CHECKSUM, NO_POSITION,
 };
 use std::ops::Range;
@@ -271,6 +271,155 @@ fn whole_packets_by_their_hashes() {
     }
 }
 
+/// A simulation as it is told in a footnote, and what it left: rows, state, packet and output.
+struct Simulated<'a> {
+    crc: Crc,
+    seed: u32,
+    range: Range<usize>,
+    field: usize,
+    limit: usize,
+    trials: u64,
+    rows: [[u32; 5]; 9],
+    state: u32,
+    packet: &'a [u8],
+    output: &'a [u8],
+}
+
+/// Counted by a program apart from this one, which tries every set of positions: one trial of each, so that a draw in the wrong row or
+/// place shows; then many.
+#[test]
+fn simulations_written_out() {
+    let (small, three) = (Crc { generator: FIVE, init: 31, xorout: 9 }, Crc::plain(9));
+    let none = [0, 0, 0, 0, 100];
+    for of in [
+        Simulated {
+            crc: Crc::plain(FIVE),
+            seed: 0,
+            range: 0..2,
+            field: 0,
+            limit: 1,
+            trials: 1,
+            rows: [
+                [1, 0, 0, 0, 0],
+                [0, 1, 0, 0, 0],
+                [0, 0, 0, 0, 1],
+                [0, 0, 0, 0, 1],
+                [0, 0, 0, 0, 1],
+                [0, 0, 0, 0, 1],
+                [0, 0, 0, 0, 1],
+                [0, 0, 0, 0, 1],
+                [0, 0, 0, 0, 1],
+            ],
+            state: 0x25D2EE25,
+            packet: &[0xAD, 0xDD, 0x64],
+            output: &[0xFF, 0xFF, 0x8E],
+        },
+        Simulated {
+            crc: small,
+            seed: 7,
+            range: 0..2,
+            field: 0,
+            limit: 2,
+            trials: 100,
+            rows: [
+                [100, 0, 0, 0, 0],
+                [0, 100, 0, 0, 0],
+                [0, 94, 0, 6, 0],
+                none,
+                [0, 0, 5, 0, 95],
+                none,
+                [0, 0, 2, 0, 98],
+                none,
+                none,
+            ],
+            state: 0x2EE46AC3,
+            packet: &[0x93, 0x7F, 0xC6],
+            output: &[0xFF, 0xFF, 0xEA],
+        },
+        Simulated {
+            crc: three,
+            seed: u32::MAX,
+            range: 0..2,
+            field: 0,
+            limit: 2,
+            trials: 100,
+            rows: [
+                [100, 0, 0, 0, 0],
+                [0, 62, 0, 38, 0],
+                [1, 46, 0, 53, 0],
+                [0, 0, 6, 2, 92],
+                [0, 0, 5, 5, 90],
+                none,
+                none,
+                none,
+                none,
+            ],
+            state: 0xFC4B0B3B,
+            packet: &[0xE7, 0xCC, 0x06],
+            output: &[0xFF, 0xFF, 0x81],
+        },
+        Simulated {
+            crc: catalogue::CRC_8_I_432_1,
+            seed: 0,
+            range: 1..6,
+            field: 3,
+            limit: 3,
+            trials: 40,
+            rows: [
+                [40, 0, 0, 0, 0],
+                [0, 5, 0, 35, 0],
+                [0, 30, 0, 10, 0],
+                [0, 17, 0, 23, 0],
+                [0, 0, 5, 1, 34],
+                [0, 0, 7, 7, 26],
+                [0, 0, 2, 2, 36],
+                [0, 0, 2, 4, 34],
+                [0, 0, 0, 0, 40],
+            ],
+            state: 0x53A40860,
+            packet: &[0x3C, 0xEA, 0x9A, 0x8F, 0x6D, 0x10, 0xEC, 0x83],
+            output: &[0xFF, 0xD0, 0x34, 0x13, 0xCB, 0x1C, 0xB3, 0x4B],
+        },
+        Simulated {
+            crc: catalogue::CRC_16_IBM_3740,
+            seed: 1,
+            range: 0..14,
+            field: 12,
+            limit: 2,
+            trials: 1000,
+            rows: [
+                [1000, 0, 0, 0, 0],
+                [0, 1000, 0, 0, 0],
+                [0, 1000, 0, 0, 0],
+                [0, 0, 0, 0, 1000],
+                [0, 0, 1, 0, 999],
+                [0, 0, 0, 0, 1000],
+                [0, 0, 0, 0, 1000],
+                [0, 0, 0, 0, 1000],
+                [0, 0, 0, 0, 1000],
+            ],
+            state: 0x4B4FAC21,
+            packet: b"\x32\x92\xC8\xB1\xCA\xC2\x0B\x67\x6F\x3C\xE4\x0B\xEB\x09\xCA\x67",
+            output: b"\xBF\x27\x63\x92\x7F\x31\x58\x36\xFE\x22\x46\xDD\xC0\xDD\x97\x11",
+        },
+    ] {
+        let tables = Tables::new(of.crc.generator).unwrap();
+        let (mut packet, mut output) = (vec![0xAA; of.packet.len()], vec![0xAA; of.packet.len()]);
+        let tried = tables
+            .simulate(of.crc, of.seed, of.range, of.field, of.limit, of.trials, &mut packet, &mut output)
+            .unwrap();
+        let rows = of.rows.map(|[intact, repaired_to_made, repaired_otherwise, several, none]| Counts {
+            intact,
+            repaired_to_made,
+            repaired_otherwise,
+            several,
+            none,
+        });
+        assert_eq!(tried.rows, rows, "{:?} {}", of.crc, of.seed);
+        assert_eq!((tried.state, &packet[..], &output[..]), (of.state, of.packet, of.output));
+    }
+}
+
 #[test]
 fn what_is_handed_back() {
     let (received, copy) = ([1, 2, 3], [4, 5, 6]);
@@ -311,6 +460,12 @@ fn the_small_inputs_of_the_refusals() {
     }
     assert_eq!(scatter(2, 3, &[0; 5], &mut [0; 6]), Err(Refusal::BlockLength));
     assert_eq!(gather(2, 3, &[0; 6], &mut [0; 5]), Err(Refusal::BlockLength));
+    for trials in [0, 65_536] {
+        let simulated = tables.simulate(Crc::plain(FIVE), 0, 0..2, 0, 1, trials, &mut [0; 3], &mut [0; 3]);
+        assert_eq!(simulated, Err(Refusal::Trials));
+    }
+    let simulated = tables.simulate(Crc::plain(FIVE), 0, 2..2, 2, 1, 0, &mut [0; 3], &mut [0; 3]);
+    assert_eq!(simulated, Err(Refusal::Field));
 }
 
 #[test]
@@ -553,6 +708,22 @@ fn the_other_names_stand_for_the_same_crcs() {
     assert_eq!(catalogue::ALIASES, expected);
     assert_eq!(catalogue::CRC_16_CCITT_FALSE, Crc { generator: CCITT, init: 0xFFFF, xorout: 0 });
     assert_eq!(catalogue::CRC_16_AUG_CCITT, Crc { generator: CCITT, init: 0x1D0F, xorout: 0 });
+}
+
+/// Every name, as it is written and in small letters; and none that is not there.
+#[test]
+fn crcs_by_name() {
+    for (name, crc) in catalogue::ALL.iter().chain(catalogue::ALIASES) {
+        assert_eq!(catalogue::by_name(name), Some(*crc), "{name}");
+        assert_eq!(catalogue::by_name(&name.to_lowercase()), Some(*crc), "{name}");
+        assert_eq!(catalogue::by_name(&format!("{name} ")), None, "{name}");
+    }
+    for (name, ..) in CATALOGUE.iter().filter(|row| row.4 || row.5) {
+        assert_eq!(catalogue::by_name(name), None, "{name}");
+    }
+    for name in ["", "CRC", "CRC-16", "CRC_16_XMODEM", "XMODEM"] {
+        assert_eq!(catalogue::by_name(name), None, "{name}");
+    }
 }
 
 /// Every row of the catalogue by its width and its polynomial without the top bit, and each number at the edge of what fits.

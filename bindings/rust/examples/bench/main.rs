@@ -7,8 +7,8 @@ mod lookup;
 
 use lookup::{Found, Lookup, Reader, Summing, TableCrc};
 use rangqoda::{
-    catalogue::CRC_16_XMODEM as CRC, remainder, seal, stamp, Mark, Page, Pattern, Tables, Verdict, CCITT, FIVE,
-    NO_CHECKSUM, RECORD_BYTES,
+    catalogue::CRC_16_XMODEM as CRC, make, remainder, seal, stamp, Counts, Mark, Page, Pattern, Simulation, Tables,
+    Verdict, CCITT, FIVE, MOST_FLIPS, NO_CHECKSUM, RECORD_BYTES,
 };
 use std::arch::asm;
 use std::ops::Range;
@@ -379,6 +379,79 @@ fn unchecked(random: &mut Random, tables: &Tables, reader: &Reader) {
     }
 }
 
+/// A simulation of packets of 64 bytes at N = 1, by a call of make and one of repair for each trial.
+fn simulated_by_calls(tables: &Tables, seed: u32, trials: u64) -> Simulation {
+    let mut simulation = Simulation { rows: [Counts::default(); MOST_FLIPS + 1], state: seed };
+    let (mut made, mut output) = ([0; 64], [0; 64]);
+    for (flips, row) in simulation.rows.iter_mut().enumerate() {
+        for _ in 0..trials {
+            let mut state = make(CRC, simulation.state, 0..62, 60, &mut made).unwrap();
+            let mut received = made;
+            let mut taken: Vec<usize> = Vec::new();
+            for i in 0..flips {
+                state = state.wrapping_mul(1664525).wrapping_add(1013904223);
+                // the place among the positions not yet taken
+                let mut position = state as usize % (512 - i);
+                for &lower in &taken {
+                    position += usize::from(lower <= position);
+                }
+                taken.push(position);
+                taken.sort_unstable();
+                received[63 - position / 8] ^= 1 << (position % 8);
+            }
+            simulation.state = state;
+            match tables.repair(CRC, 0..62, 60, 1, &received, &mut output).unwrap() {
+                Verdict::Intact => row.intact += 1,
+                Verdict::Repaired(_) if output == made => row.repaired_to_made += 1,
+                Verdict::Repaired(_) => row.repaired_otherwise += 1,
+                Verdict::Several { .. } => row.several += 1,
+                Verdict::None => row.none += 1,
+            }
+        }
+    }
+    simulation
+}
+
+/// A trial, which is a packet made, damaged and repaired, beside a call of repair alone.
+fn simulations(random: &mut Random, tables: &Tables, verifying: Duration) {
+    const TRIALS: u64 = 1000;
+    println!("Simulation of 1,000 trials in each of its nine rows (CCITT, 64 bytes, N of 1). Microseconds.");
+    println!("trial  verifying tables  repair call  trial to call  trial by make and repair     ratio");
+    let received = damaged(random, 200, 64, 1);
+    let seed = random.below(1 << 32) as u32;
+    let (mut packet, mut output) = ([0; 64], [0; 64]);
+    let tried = tables.simulate(CRC, seed, 0..62, 60, 1, TRIALS, &mut packet, &mut output).unwrap();
+    assert_eq!(tried, simulated_by_calls(tables, seed, TRIALS));
+
+    let times = race(
+        5,
+        &mut (),
+        |_| (),
+        &mut [
+            &mut |_| {
+                let _ = black_box(tables.simulate(CRC, seed, 0..62, 60, 1, TRIALS, &mut packet, &mut output).unwrap());
+            },
+            &mut |_| {
+                for packet in &received {
+                    let _ = black_box(tables.repair(CRC, 0..62, 60, 1, packet, &mut [0; 64]).unwrap());
+                }
+            },
+            &mut |_| {
+                let _ = black_box(simulated_by_calls(tables, seed, TRIALS));
+            },
+        ],
+    );
+    let trials = 9.0 * TRIALS as f64;
+    let (trial, call) = (micros(times[0]) / trials, micros(times[1]) / received.len() as f64);
+    println!(
+        "{trial:5.2}  {:15.2}%  {call:11.2}  {:13.3}  {:24.2}  {:8.2}",
+        share(verifying, times[0]),
+        trial / call,
+        micros(times[2]) / trials,
+        ratio(times[2], times[0]),
+    );
+}
+
 fn remainders(random: &mut Random, crc: &TableCrc) {
     println!("Remainder of a packet (CCITT), beside a table-driven CRC in the usual loop and in the shifting one. Nanoseconds.");
     println!("bytes   library     usual  ratio  shifting  ratio");
@@ -445,6 +518,8 @@ fn main() {
     repairs(random, &tables, &reader, verifying);
     println!();
     unchecked(random, &tables, &reader);
+    println!();
+    simulations(random, &tables, verifying);
     println!();
     remainders(random, &reader.crc);
 }

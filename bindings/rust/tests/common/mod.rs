@@ -418,6 +418,70 @@ pub fn repair(call: &RepairCall<'_>, before: &RepairLent) -> (u32, RepairLent) {
     (number, RepairLent { output: output.content().to_vec(), verdict: verdict.content().to_vec() })
 }
 
+/// What is lent to a simulation: what it reads, and what it may write.
+#[derive(Clone, Debug)]
+pub struct SimulateCall<'a> {
+    pub crc: Crc,
+    pub seed: u32,
+    pub start: usize,
+    pub end: usize,
+    pub field: usize,
+    pub limit: usize,
+    pub trials: u64,
+    pub step: &'a [u16],
+    pub first: &'a [u16],
+}
+
+#[derive(Clone, Debug, PartialEq, Eq)]
+pub struct SimulateLent {
+    pub packet: Vec<u8>,
+    pub output: Vec<u8>,
+    pub counts: Vec<u32>,
+    pub state: u32,
+}
+
+pub fn simulate(call: &SimulateCall<'_>, before: &SimulateLent) -> (u32, SimulateLent) {
+    let step = Guarded::new(call.step);
+    let first = Guarded::new(call.first);
+    let mut packet = Guarded::new(&before.packet);
+    let mut output = Guarded::new(&before.output);
+    let mut counts = Guarded::new(&before.counts);
+    let mut state = Guarded::new(&[before.state]);
+    let number = unsafe {
+        ffi::rangqoda_simulate(
+            call.crc.generator,
+            call.crc.init,
+            call.crc.xorout,
+            call.seed,
+            call.start,
+            call.end,
+            call.field,
+            call.limit,
+            call.trials,
+            step.as_ptr(),
+            call.step.len(),
+            first.as_ptr(),
+            call.first.len(),
+            packet.as_mut_ptr(),
+            before.packet.len(),
+            output.as_mut_ptr(),
+            before.output.len(),
+            counts.as_mut_ptr(),
+            before.counts.len(),
+            state.as_mut_ptr(),
+        )
+    };
+    step.kept(call.step);
+    first.kept(call.first);
+    let after = SimulateLent {
+        packet: packet.content().to_vec(),
+        output: output.content().to_vec(),
+        counts: counts.content().to_vec(),
+        state: state.content()[0],
+    };
+    (number, after)
+}
+
 pub fn publish(verdict: &[u8]) -> u32 {
     let lent = Guarded::new(verdict);
     let number = unsafe { ffi::rangqoda_publish(lent.as_ptr(), verdict.len()) };

@@ -1,7 +1,7 @@
 //! The wrapper's conversions to bytes and back, and its texts.
 
 use crate::common::{self, PageCall, PageLent, Random};
-use crate::reference::{self, MARK_BYTES, MOST_POSITIONS, RECORD_BYTES, VERDICT_BYTES};
+use crate::reference::{self, MARK_BYTES, MOST_FLIPS, MOST_POSITIONS, RECORD_BYTES, VERDICT_BYTES};
 use rangqoda::{Mark, Page, Pattern, Refusal, Verdict};
 use std::collections::BTreeSet;
 use std::panic::catch_unwind;
@@ -35,6 +35,7 @@ fn the_lengths_are_the_rules() {
     assert_eq!(rangqoda::RECORD_BYTES, RECORD_BYTES);
     assert_eq!(rangqoda::MARK_BYTES, MARK_BYTES);
     assert_eq!(rangqoda::VERDICT_BYTES, VERDICT_BYTES);
+    assert_eq!(rangqoda::MOST_FLIPS, MOST_FLIPS);
 }
 
 #[test]
@@ -208,12 +209,13 @@ fn each_refusal_has_its_text() {
         (Refusal::Values, "refused 11: the initial or the final value does not fit the degree"),
         (Refusal::BlockShape, "refused 12: the rows or the columns are outside 1 to 64"),
         (Refusal::BlockLength, "refused 13: the input or the output has not as many bytes as rows times columns"),
+        (Refusal::Trials, "refused 14: the number of trials is outside 1 to 65535"),
     ];
     assert_eq!(texts.map(|(refusal, _)| refusal), Refusal::ALL);
     for (number, (refusal, text)) in (1..).zip(texts) {
         assert_eq!((refusal.number(), refusal.to_string().as_str()), (number, text));
     }
-    assert_eq!(texts.iter().map(|(_, text)| text).collect::<BTreeSet<_>>().len(), 13);
+    assert_eq!(texts.iter().map(|(_, text)| text).collect::<BTreeSet<_>>().len(), 14);
     assert!(Refusal::Limit.to_string().ends_with(&format!("1 to {MOST_POSITIONS}")));
 }
 

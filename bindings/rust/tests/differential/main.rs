@@ -17,5 +17,6 @@ mod maker;
 mod pages;
 mod remainder;
 mod repair;
+mod simulation;
 mod tables;
 mod wrapper;

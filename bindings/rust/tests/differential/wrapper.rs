@@ -131,6 +131,24 @@ fn the_wrapper_passes_refusals_on() {
     assert_eq!(rangqoda::make(five, 7, 0..16, 1, &mut output), Err(Refusal::Range));
     assert_eq!(rangqoda::make(five, 7, 0..4, 1, &mut output), Err(Refusal::Field));
     assert_eq!(tables.patterns(8, 0, 3).err(), Some(Refusal::Limit));
+    let (three, mut packet) = (&mut output[..3], [7; 3]);
+    let mut simulated = |crc, range, field, limit, trials| {
+        tables.simulate(crc, 7, range, field, limit, trials, &mut packet, three).unwrap_err()
+    };
+    assert_eq!(simulated(Crc::plain(8), 0..2, 0, 1, 1), Refusal::Generator);
+    assert_eq!(simulated(wide, 0..2, 0, 1, 1), Refusal::Values);
+    assert_eq!(simulated(five, 0..2, 0, MOST_POSITIONS + 1, 1), Refusal::Limit);
+    assert_eq!(simulated(Crc::plain(9), 0..2, 0, 1, 1), Refusal::TableLength);
+    assert_eq!(simulated(Crc::plain(FIVE + 2), 0..2, 0, 1, 1), Refusal::TableEntry);
+    assert_eq!(simulated(five, 0..3, 0, 1, 1), Refusal::Range);
+    assert_eq!(simulated(five, 0..2, 1, 1, 1), Refusal::Field);
+    assert_eq!(simulated(five, NO_CHECKSUM, 0, 1, 1), Refusal::Field);
+    for trials in [0, 65_536, 1 << 32 | 1, u64::MAX] {
+        assert_eq!(simulated(five, 0..2, 0, 1, trials), Refusal::Trials);
+    }
+    assert_eq!(tables.simulate(five, 7, 0..2, 0, 1, 1, &mut packet, &mut output), Err(Refusal::Output));
+    assert_eq!(tables.simulate(five, 7, 0..2, 0, 1, 1, &mut [], &mut []), Err(Refusal::Length));
+    assert_eq!(packet, [7; 3]);
     for call in [rangqoda::scatter, rangqoda::gather] {
         assert_eq!(call(65, 1, &[1; 65], &mut output), Err(Refusal::BlockShape));
         assert_eq!(call(1 << 32, 1 << 32, &[], &mut []), Err(Refusal::BlockShape));

@@ -17,6 +17,10 @@ pub const RECORD_BYTES: usize = 1 + 2 * MOST_POSITIONS;
 pub const MARK_BYTES: usize = RECORD_BYTES;
 pub const VERDICT_BYTES: usize = 1 + 8 + RECORD_BYTES;
 
+/// The most bits that flip in a trial, and the counts of a simulation: five for each number of flips.
+pub const MOST_FLIPS: usize = 8;
+pub const COUNTS: usize = 5 * (MOST_FLIPS + 1);
+
 pub type Answer<T> = Result<T, u32>;
 
 /// A set of positions, ascending.
@@ -179,6 +183,13 @@ fn range_fits(start: usize, end: usize, length: u128, n: usize) -> Answer<()> {
 fn field_fits(start: usize, end: usize, field: usize) -> Answer<()> {
     if field < start || field as u128 + 2 > end as u128 || (field - start) & 1 == 1 {
         return Err(10);
+    }
+    Ok(())
+}
+
+fn trials_fit(trials: u64) -> Answer<()> {
+    if trials == 0 || trials > 65535 {
+        return Err(14);
     }
     Ok(())
 }
@@ -497,6 +508,96 @@ pub fn repair(of: &RepairOf<'_>, output: &mut [u8]) -> Answer<Verdict> {
         }
         [pattern, ..] => Verdict::Several(passing.len() as u64, pattern.clone()),
     })
+}
+
+// ---- the simulation
+
+/// The positions that so many draws from a state take, in the order of the draws, and the last state. The positions not yet taken
+/// ascend, and are one fewer after each draw.
+pub fn draws(length: usize, count: usize, state: u32) -> (Pattern, u32) {
+    let mut untaken: Pattern = (0..length as u16).collect();
+    let (mut taken, mut last) = (Vec::new(), state);
+    for state in states(state).take(count) {
+        taken.push(untaken.remove(state as usize % untaken.len()));
+        last = state;
+    }
+    (taken, last)
+}
+
+/// What a simulation is given, apart from the memory that it may write.
+#[derive(Clone, Debug)]
+pub struct SimulateOf<'a> {
+    pub crc: Crc,
+    pub seed: u32,
+    pub start: usize,
+    pub end: usize,
+    pub field: usize,
+    pub limit: usize,
+    pub trials: u64,
+    pub step: &'a [u16],
+    pub first: &'a [u16],
+}
+
+/// One trial: the packet made, the packet received, the verdict, and the state after the draws. The output is the repair's.
+pub fn trial(
+    of: &SimulateOf<'_>,
+    flips: usize,
+    state: u32,
+    len: usize,
+    output: &mut [u8],
+) -> (Vec<u8>, Vec<u8>, Verdict, u32) {
+    let mut made = vec![0; len];
+    let state = make(of.crc, state, of.start, of.end, of.field, &mut made).expect("a packet can be made");
+    let (positions, state) = draws(8 * len, flips, state);
+    let received = flipped(&made, &positions);
+    let repair_of = RepairOf {
+        crc: of.crc,
+        start: of.start,
+        end: of.end,
+        field: of.field,
+        limit: of.limit,
+        step: of.step,
+        first: of.first,
+        packet: &received,
+    };
+    let verdict = repair(&repair_of, output).expect("it can be repaired");
+    (made, received, verdict, state)
+}
+
+/// The state after the last draw. The counts are rows for 0, 1, ... flips: intact, repaired to the packet made, repaired otherwise,
+/// several, none.
+pub fn simulate(of: &SimulateOf<'_>, packet: &mut [u8], output: &mut [u8], counts: &mut [u32]) -> Answer<u32> {
+    let n = generator_fits(of.crc.generator)?;
+    length_fits(packet_length(packet), n)?;
+    values_fit(of.crc, n)?;
+    limit_fits(of.limit)?;
+    table_lengths_fit(of.step, of.first, n)?;
+    table_entries_right(of.step, of.first, of.crc.generator)?;
+    if output.len() != packet.len() || counts.len() != COUNTS {
+        return Err(8);
+    }
+    range_fits(of.start, of.end, packet_length(packet), n)?;
+    field_fits(of.start, of.end, of.field)?;
+    trials_fit(of.trials)?;
+
+    counts.fill(0);
+    let mut state = of.seed;
+    for (flips, row) in counts.chunks_mut(5).enumerate() {
+        for _ in 0..of.trials {
+            let (made, received, verdict, last) = trial(of, flips, state, packet.len(), output);
+            let column = match verdict {
+                Verdict::Intact => 0,
+                Verdict::Repaired(pattern) if flipped(&received, &pattern) == made => 1,
+                Verdict::Repaired(_) => 2,
+                Verdict::Several(..) => 3,
+                Verdict::None => 4,
+            };
+            row[column] += 1;
+            packet.copy_from_slice(&received);
+            state = last;
+        }
+    }
+    Ok(state)
 }
 
 // ---- the bytes of marks and verdicts
