@@ -205,7 +205,8 @@
  *
  * So choose the least N that the channel needs, publish it beside the number
  * of repairs, and hold these for doubtful where many verdicts are
- * RANGQODA_NONE. rangqoda_simulate counts all this for other settings.
+ * RANGQODA_NONE. For packets with a checksum and up to 8 flipped bits
+ * rangqoda_simulate counts such repairs with other settings.
  *
  * Drop-outs of zeros are worse than noise. Where a recording puts zeros in the
  * place of lost bytes, the field may be among them, and a field of zero asks for
@@ -702,9 +703,9 @@ uint32_t rangqoda_publish(const uint8_t *verdict, size_t verdict_len);
  *       RANGQODA_COUNT_NONE               none passes
  *
  * The counts of each row add up to the trials. Without flips all are intact.
- * With at most limit flips no packet is repaired otherwise, and of none it is
- * said that nothing passes. With flips, intact is said of a damaged packet that
- * happens to pass both checks.
+ * With at most limit flips the counts of REPAIRED_OTHERWISE and NONE are 0.
+ * With flips, intact is said of a damaged packet that happens to pass both
+ * checks.
  *
  * The tables are those of rangqoda_tables; every entry is verified, once for all
  * trials. output_len is packet_len, counts_len is RANGQODA_COUNTS.
@@ -715,8 +716,9 @@ uint32_t rangqoda_publish(const uint8_t *verdict, size_t verdict_len);
  * left it, and so stays where none was repaired; and into *state the state after
  * the last draw. For more trials pass it as the next seed.
  *
- * It models bits that flip each for itself. Real channels have bursts and
- * drop-outs, which it does not.
+ * It flips single bits, drawn one after the other. It does not model bursts and
+ * drop-outs, which real channels have. The draws are not quite independent, since
+ * the low bits of the stream repeat soon.
  *
  * A trial takes as long as a repair without the verification of the tables, so
  * that 9 * trials of them may take hours at limits of 3 and 4: a call cannot be

@@ -12,9 +12,10 @@ use std::io::{self, Write};
 use std::ops::Range;
 use std::process::exit;
 
-const USAGE: &str = "
+const USAGE: &str = "\
 usage: simulate CRC BYTES RANGE FIELD N TRIALS SEED
    or: simulate names
+   or: simulate --help
 
   CRC     the CRC's name; `simulate names` prints the names
   BYTES   the length of a packet
@@ -43,13 +44,17 @@ struct Settings {
 
 /// A number, decimal or hexadecimal, of at most `most`; or what is wrong with it.
 fn number(name: &str, text: &str, most: u64) -> Result<u64, String> {
-    let read = match text.strip_prefix("0x") {
-        Some(digits) => u64::from_str_radix(digits, 16),
-        None => text.parse(),
+    let (digits, base) = match text.strip_prefix("0x") {
+        Some(digits) => (digits, 16),
+        None => (text, 10),
     };
-    match read {
-        Ok(number) if number <= most && !text.contains('+') => Ok(number),
-        _ => Err(format!("{name} is {text:?}, which is no number from 0 to {most}")),
+    if digits.is_empty() || !digits.chars().all(|digit| digit.is_digit(base)) {
+        return Err(format!("{name} is {text:?}, which is no number"));
+    }
+    match u64::from_str_radix(digits, base) {
+        Ok(number) if number <= most => Ok(number),
+        _ if most == u64::MAX => Err(format!("{name} is {text}, which is too great")),
+        _ => Err(format!("{name} is {text}, which is too great: the greatest is {most}")),
     }
 }
 
@@ -101,10 +106,12 @@ fn refused(refusal: Refusal, of: &Settings) -> String {
     format!("{refusal} ({about})")
 }
 
-/// The most trials of a call. One with a greater limit takes longer, and a call shows nothing before it ends.
-fn most_in_a_call(limit: usize) -> u64 {
+/// The most trials of a call. One with a greater limit or longer packets takes longer, and a call shows nothing before it ends.
+fn most_in_a_call(limit: usize, bytes: usize) -> u64 {
     match limit {
+        4 if bytes > 128 => 1,
         4 => 10,
+        3 if bytes > 128 => 10,
         3 => 100,
         _ => 1000,
     }
@@ -117,12 +124,17 @@ fn calls(trials: u64, most: u64) -> impl Iterator<Item = u64> {
     whole.chain(if rest > 0 || trials == 0 { Some(rest) } else { None })
 }
 
+/// The trials in words.
+fn trials_in_words(trials: u64) -> String {
+    let trial = if trials == 1 { "trial" } else { "trials" };
+    format!("{trials} {trial}")
+}
+
 /// The calls in words.
 fn calls_in_words(trials: u64, most: u64) -> String {
     let some = |calls: u64, trials: u64| {
         let call = if calls == 1 { "call" } else { "calls" };
-        let trial = if trials == 1 { "trial" } else { "trials" };
-        format!("{calls} {call} of {trials} {trial}")
+        format!("{calls} {call} of {}", trials_in_words(trials))
     };
     match (trials / most, trials % most) {
         (0, rest) => some(1, rest),
@@ -148,7 +160,7 @@ fn simulate(of: &Settings, mut progress: impl FnMut(u64)) -> Result<([Row; MOST_
     let len = of.bytes.min(513);
     let (mut packet, mut output) = (vec![0; len], vec![0; len]);
     let (mut rows, mut state, mut done) = ([[0; 5]; MOST_FLIPS + 1], of.seed, 0);
-    for trials in calls(of.trials, most_in_a_call(of.limit)) {
+    for trials in calls(of.trials, most_in_a_call(of.limit, of.bytes)) {
         let tried =
             tables.simulate(of.crc, state, of.range.clone(), of.field, of.limit, trials, &mut packet, &mut output)?;
         for (row, counts) in rows.iter_mut().zip(&tried.rows) {
@@ -201,16 +213,18 @@ fn table(rows: &[Row], trials: u64) -> String {
 fn footnote(of: &Settings, state: u32) -> String {
     let Settings { name, crc, bytes, range, field, limit, trials, seed } = of;
     let Crc { generator, init, xorout } = crc;
-    let (last, calls) = (range.end.saturating_sub(1), calls_in_words(*trials, most_in_a_call(*limit)));
+    let (last, calls) = (range.end.saturating_sub(1), calls_in_words(*trials, most_in_a_call(*limit, *bytes)));
     format!(
         "\
 {name}: generator {generator:#X}, initial value {init:#X}, final value {xorout:#X}.
 Packets of {bytes} bytes, range {range:?} (checksum over bytes {} to {last}), field at byte {field}, limit N = {limit}.
-{trials} trials with each number of flips, from seed {seed}, in {calls};
-each call has as many trials in every row, and begins at the state at which the one before it ended.
+{} with each number of flips, from seed {seed}, in {calls};
+each call runs that many trials for every number of flips,
+and begins at the state at which the one before it ended.
 State at the end: {state:#010X}. Rangqoda {}, simulate {name} {bytes} {range:?} {field} {limit} {trials} {seed}.
 ",
         range.start,
+        trials_in_words(*trials),
         rangqoda::VERSION,
     )
 }
@@ -243,17 +257,19 @@ const MISUSED: i32 = 2;
 /// What is to be printed.
 fn run(arguments: &[String]) -> Result<String, Failure> {
     if let [only] = arguments {
-        if only == "names" {
-            return Ok(names());
+        match only.as_str() {
+            "names" => return Ok(names()),
+            "-h" | "--help" => return Ok(format!("{USAGE}\n")),
+            _ => (),
         }
     }
     let arguments = <&[String; 7]>::try_from(arguments)
-        .map_err(|_| Failure(MISUSED, format!("7 arguments are needed, and {} came\n{USAGE}", arguments.len())))?;
+        .map_err(|_| Failure(MISUSED, format!("7 arguments are needed, and {} came\n\n{USAGE}", arguments.len())))?;
     let of = settings(arguments).map_err(|wrong| Failure(MISUSED, wrong))?;
     let shown = at_a_terminal();
     let simulated = simulate(&of, |done| {
         if shown {
-            eprint!("\r{done} of {} trials with each number of flips", of.trials);
+            eprint!("\r{done} of {} with each number of flips", trials_in_words(of.trials));
         }
     });
     if shown {
@@ -297,13 +313,21 @@ mod tests {
         for (text, expected) in [("0", 0), ("62", 62), ("007", 7), ("0x3e", 62), ("0x3E", 62), ("255", 255)] {
             assert_eq!(number("FIELD", text, 255), Ok(expected));
         }
-        for text in ["", "ten", "-1", "+1", "0x", "0x+1", "1e3", "1.0", " 1", "1 ", "10,000", "3Eh", "256", "0x100"] {
+        for text in
+            ["", "ten", "-1", "+1", "0x", "0x+1", "1e3", "1.0", " 1", "1 ", "10,000", "3Eh", "99999999999999999999x"]
+        {
             let wrong = number("FIELD", text, 255).unwrap_err();
-            assert_eq!(wrong, format!("FIELD is {text:?}, which is no number from 0 to 255"));
+            assert_eq!(wrong, format!("FIELD is {text:?}, which is no number"));
+        }
+        for text in ["256", "0x100", "0256", "18446744073709551616", "0x10000000000000000"] {
+            let wrong = number("FIELD", text, 255).unwrap_err();
+            assert_eq!(wrong, format!("FIELD is {text}, which is too great: the greatest is 255"));
         }
         assert_eq!(number("SEED", "4294967295", u32::MAX.into()), Ok(4294967295));
         assert!(number("SEED", "4294967296", u32::MAX.into()).is_err());
-        assert!(number("TRIALS", "18446744073709551616", u64::MAX).is_err());
+        assert_eq!(number("TRIALS", "18446744073709551615", u64::MAX), Ok(u64::MAX));
+        let wrong = number("TRIALS", "18446744073709551616", u64::MAX).unwrap_err();
+        assert_eq!(wrong, "TRIALS is 18446744073709551616, which is too great");
     }
 
     #[test]
@@ -371,6 +395,29 @@ mod tests {
     }
 
     #[test]
+    fn long_calls_have_fewer_trials() {
+        for (limit, bytes, most) in [
+            (1, 512, 1000),
+            (2, 512, 1000),
+            (3, 128, 100),
+            (3, 129, 10),
+            (4, 128, 10),
+            (4, 129, 1),
+            (4, 512, 1),
+            (5, 64, 1000),
+        ] {
+            assert_eq!(most_in_a_call(limit, bytes), most, "{limit} {bytes}");
+        }
+        // the footnote tells the calls that are run
+        let of = settings(&arguments("CRC-16/IBM-3740 129 0..127 0 3 21 1")).unwrap();
+        let mut told = Vec::new();
+        let (_, state) = simulate(&of, |done| told.push(done)).unwrap();
+        assert_eq!(told, [10, 20, 21]);
+        let text = footnote(&of, state);
+        assert!(text.contains(", in 2 calls of 10 trials and 1 call of 1 trial;\n"), "{text}");
+    }
+
+    #[test]
     fn parts_in_per_cent() {
         for (part, whole, expected) in [
             (0, 1, "0.00%"),
@@ -414,13 +461,16 @@ flips          intact     packet made       otherwise         several           
 CRC-8: generator 0x107, initial value 0x0, final value 0x0.
 Packets of 9 bytes, range 0..8 (checksum over bytes 0 to 7), field at byte 6, limit N = 2.
 2500 trials with each number of flips, from seed 7, in 2 calls of 1000 trials and 1 call of 500 trials;
-each call has as many trials in every row, and begins at the state at which the one before it ended.
+each call runs that many trials for every number of flips,
+and begins at the state at which the one before it ended.
 ";
         assert!(text.starts_with(expected), "{text}");
         let version = rangqoda::VERSION;
         assert!(text.ends_with(&format!(
             "State at the end: 0x00ABCDEF. Rangqoda {version}, simulate CRC-8 9 0..8 6 2 2500 7.\n"
         )));
+        let one = footnote(&Settings { trials: 1, ..small() }, 0);
+        assert!(one.contains("\n1 trial with each number of flips, from seed 7, in 1 call of 1 trial;\n"), "{one}");
     }
 
     /// The rows are the sums of the calls', with the state passed on; and the arguments of the footnote make them again.
@@ -468,6 +518,20 @@ each call has as many trials in every row, and begins at the state at which the 
             let of = settings(&arguments(text)).unwrap();
             let found = refused(simulate(&of, |_| ()).unwrap_err(), &of);
             assert!(found.contains(about), "{found}");
+        }
+    }
+
+    #[test]
+    fn help_is_the_usage() {
+        for asked in ["-h", "--help"] {
+            assert_eq!(run(&[asked.to_string()]).ok(), Some(format!("{USAGE}\n")));
+        }
+        assert!(USAGE.starts_with("usage: simulate CRC BYTES"));
+        for arguments in [&[][..], &["help"], &["--help", "-h"]] {
+            let arguments: Vec<String> = arguments.iter().map(|text| text.to_string()).collect();
+            let Failure(status, wrong) = run(&arguments).unwrap_err();
+            let first = format!("7 arguments are needed, and {} came", arguments.len());
+            assert_eq!((status, wrong), (MISUSED, format!("{first}\n\n{USAGE}")));
         }
     }
 

@@ -84,13 +84,13 @@
 //! planned, at each N that comes into question, and compare the rows. The example `simulate` prints them as a table, with a footnote
 //! from which anyone can make it again.
 //!
-//! It models independent flips: each draw picks any of the positions that are left. Bursts and drop-outs are no such flips, and the rows
-//! say nothing of them. Nor do they say how many bits flip in a packet: that is the channel's. Every packet that is tried carries a
-//! checksum.
+//! It is meant for independent flips. Bursts and drop-outs are no such flips, and the rows say nothing of them. Nor do they say how many
+//! bits flip in a packet: that is the channel's. Every packet that is tried carries a checksum.
 //!
-//! The draws are no better than the stream that the packets are made from. Its low bits repeat soon, and so the first draw of a trial
-//! may take few of the positions: with 60 bytes and four flips, 15 of 480. Where counts were compared with those of independent draws,
-//! they agreed within chance.
+//! The draws are no better than the stream that the packets are made from. Its low bits repeat soon, so the draws are not quite
+//! independent. The first draw of a trial may take few of the positions: with 60 bytes and four flips, 15 of 480. And the places of
+//! draws 0, 2, 4 and 6 are all even or all odd. Where counts were compared with those of independent draws, the difference was a few
+//! per cent at most.
 //!
 //! # How long it takes
 //!

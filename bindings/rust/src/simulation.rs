@@ -64,8 +64,8 @@ pub struct Simulation {
 /// What the packet held before does not matter; it ends as it was last received. `output` is as long as the packet, and ends as the
 /// repairs left it: it holds the last packet that was repaired, and stays as it was where none was.
 ///
-/// For more trials pass the state as the next seed, and add up the rows. The rows of one long call are others, since there each row
-/// begins where the trials of the row before it ended.
+/// For more trials pass the state as the next seed, and add up the rows. One call with all the trials counts other packets: it ends a
+/// row before it begins the next.
 ///
 /// ```
 /// use rangqoda::{catalogue::CRC_16_IBM_3740 as CRC, simulate, Tables};

@@ -96,3 +96,17 @@ fn the_numbers() {
         assert_eq!(number(&defined[name]), u64::from(verdict.to_bytes()[0]), "{name}");
     }
 }
+
+#[test]
+fn the_numbers_of_a_simulation() {
+    let defined = defined();
+    assert_eq!(number(&defined["REFUSED_TRIALS"]), 14);
+    assert_eq!(number(&defined["MOST_FLIPS"]), rangqoda::MOST_FLIPS as u64);
+    assert_eq!(number(&defined["COLUMNS"]), 5);
+    assert_eq!(defined["COUNTS"], "(COLUMNS * (MOST_FLIPS + 1))");
+    let columns = ["INTACT", "REPAIRED_TO_MADE", "REPAIRED_OTHERWISE", "SEVERAL", "NONE"];
+    for (column, name) in columns.iter().enumerate() {
+        assert_eq!(number(&defined[format!("COUNT_{name}").as_str()]), column as u64, "{name}");
+    }
+    assert_eq!(defined.keys().filter(|name| name.starts_with("COUNT_")).count(), columns.len());
+}

@@ -1,5 +1,5 @@
 -- The simulation (docs/RULES.md, section 14), about its call: simulateCall, simulateCounts and simulatePacket, which its contract equals.
-use mathlib.Core.Path.{_≡_, refl, ap, _∙_}
+use mathlib.Core.Path.{_≡_, refl, sym, ap, _∙_}
 use mathlib.Core.Bool.{true, false}
 use mathlib.Core.List.{List, [], _∷_}
 use Prim.Native.Nat.{ℕ, _+_, _*_, _≤_}
@@ -7,7 +7,7 @@ use native.Mathlib.Omega.{arith}
 use lib.ListN.{length, getD}
 use Rattle.base.specs.Lists.{Ascending}
 use Rattle.base.specs.Outcome.{accepted}
-use Rattle.base.proofs.JudgeLaws.{applied, judge-accepted, judge-clear}
+use Rattle.base.proofs.JudgeLaws.{applied, judge-accepted, judge-value, judge-clear}
 use Rattle.base.proofs.ListLaws.{ascending-all}
 use Rattle.poly.specs.Polynomial.{degree}
 use Rattle.poly.proofs.GeneratorLaws.{fit-accepted}
@@ -179,12 +179,15 @@ module _ (g init xorout seed : ℕ) (k : Check) (limit n : ℕ) (steps firsts pa
   pub no-flips-intact : (count 0 0 ≡ n) × (count 0 1 ≡ 0) × (count 0 2 ≡ 0) × (count 0 3 ≡ 0) × (count 0 4 ≡ 0)
   no-flips-intact = row-unflipped (row 0 (omega arith))
 
-  -- with at most N flips no packet is repaired otherwise, and of none nothing is found
+  -- with at most N flips the counts of repaired otherwise and of none are 0
   pub few-flips-right : (f : ℕ) → f ≤ mostFlips → f ≤ limit → (count f 2 ≡ 0) × (count f 4 ≡ 0)
   few-flips-right f h = row-few (row f h)
 
-  -- the packet ends as last received: the packet made from some state, with eight bits different
-  pub ends-as-received : (y : ℕ) × (simulatePacket request ≡ arrived mostFlips y)
+  -- the packet ends as last received, in the trial that began where its bytes and draws lead to the state answered
+  pub ends-as-received : (y : ℕ) × (simulatePacket request ≡ arrived mostFlips y) × (x ≡ stateAfter mostFlips (stateAfter (length packet) y))
   ends-as-received =
-      let last = last-received crc k limit n seed packet output comes (fit-trials n (clear 14) .0) in
-      (last .0, judge-accepted (simulateConditions request) _ x (λ _. packet) (outcome request .packet) told ∙ last .1)
+      let last = last-received crc k limit n seed packet output comes (fit-trials n (clear 14) .0) in (
+        last .0,
+        judge-accepted (simulateConditions request) _ x (λ _. packet) (outcome request .packet) told ∙ last .1,
+        sym (judge-value (simulateConditions request) (outcome request .state) x told) ∙ last .2,
+      )

@@ -106,7 +106,7 @@ pub record Worked : Type 0 where
   pub row24 : listOf (generatorOf 13) 6 3 4 ≡ (2 ∷ []) ∷ (4 ∷ 5 ∷ []) ∷ (0 ∷ 3 ∷ []) ∷ (0 ∷ 1 ∷ 4 ∷ []) ∷ (1 ∷ 3 ∷ 5 ∷ []) ∷ []
   -- eight draws from state 0, L 24: {2,4,7,10,14,15,17,21}
   pub row25 : drawn 24 8 0 ≡ 2 ∷ 4 ∷ 7 ∷ 10 ∷ 14 ∷ 15 ∷ 17 ∷ 21 ∷ []
-  -- 11, three bytes, range [0,2), field 0, N 2, two trials from seed FFFFFFFFh: rows 0 to 4, and each none twice; 3F963805h; EF 7E 79; FF FF 79
+  -- 11, three bytes, range [0,2), field 0, N 2, two trials from seed FFFFFFFFh: the rows; 3F963805h; EF 7E 79; FF FF 79
   pub row26 : simulated (crcOf 11 0 0) firstTwo 2 2 0xFFFFFFFF (0 ∷ 0 ∷ 0 ∷ []) (0 ∷ 0 ∷ 0 ∷ [])
       ≡ record {
         state = 0x3F963805;

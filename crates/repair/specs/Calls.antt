@@ -49,18 +49,6 @@ unfitCopy room long = not (eqb room long)
 unfoldable pub unfitCheckField : Check → Bool
 unfitCheckField k = ltb (k .from) (k .to) && unfitField k
 
--- what a repair begins with, as whatever repairs does: 1, 2, 11, 3, 5 and 6
-abbrev pub settingConditions : Crc → ℕ → List ℕ → List ℕ → ℕ → List Condition
-settingConditions c limit steps firsts l =
-    let g = c .generator in
-    when 1 (unfit (g .coefficients))
-    ∷ when 2 (unfitLength (g .degree) l)
-    ∷ when 11 (unfitValues (g .degree) (c .init) (c .xorout))
-    ∷ when 3 (unfitLimit limit)
-    ∷ when 5 (unfitTables (g .degree) (length steps) (length firsts))
-    ∷ when 6 (wrongTables (g .degree) (g .coefficients) steps firsts)
-    ∷ []
-
 -- a repair call is refused by 1, 2, 11, 3, 5, 6, 8, 9 and 10
 abbrev pub repairConditions : Repair → List Condition
 repairConditions r =

@@ -14,10 +14,10 @@ ghost use Rattle.packet.specs.Packet.{bits, crcOf};
 ghost use Rattle.cursor.specs.Cursors.{RightTables};
 ghost use Rattle.verdicts.specs.Verdicts.{said, verdict, outputFor};
 ghost use Rattle.verdicts.specs.Settling.{Settleable};
+ghost use Rattle.repair.specs.Settings.{settingConditions};
 ghost use Rattle.repair.specs.Calls.{
   repairRequest,
   unfitCheckField,
-  settingConditions,
   repairConditions,
   repairAnswer,
   repairCall,

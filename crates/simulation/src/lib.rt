@@ -55,7 +55,10 @@ fn unfit_room(output: usize, packet: usize, counts: usize) -> bool
     if output != packet {
         return true;
     }
-    counts != COUNTS
+    if counts != COUNTS {
+        return true;
+    }
+    false
 }
 
 // The conditions of a simulation, in their order.

@@ -67,7 +67,7 @@ module _ (c : Crc) (k : Check) (limit : ℕ) where
   trials-shaped : (f n : ℕ) (t : Tried) → Shaped (t .counts) → Shaped (trials c k limit f n t .counts)
   unfolding trials trial
   trials-shaped f zero t s = s
-  trials-shaped f (suc n) t s = trials-shaped f n (trial c k limit f t) (counted-shaped f _ (t .counts) s)
+  trials-shaped f (suc n) t s = trials-shaped f n (trial c k limit f t) (counted-shaped _ _ (t .counts) s)
 
   rows-shaped : (n rows f : ℕ) (t : Tried) → Shaped (t .counts) → Shaped (rowsOf c k limit n rows f t .counts)
   unfolding rowsOf

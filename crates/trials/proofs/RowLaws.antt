@@ -10,6 +10,7 @@ use Rattle.base.proofs.Cases.{by-test, by-equal}
 use Rattle.packet.specs.Packet.{flips}
 use Rattle.packet.specs.declared.Crc.{Crc}
 use Rattle.checksum.specs.declared.Check.{Check}
+use Rattle.maker.specs.Stream.{stateAfter}
 use Rattle.maker.specs.Calls.{made}
 use Rattle.verdicts.specs.Verdicts.{Said, intact, repaired, several, nothing, verdict}
 use Rattle.verdicts.proofs.VerdictLaws.{zero-not-one}
@@ -102,7 +103,7 @@ module _ (c : Crc) (k : Check) (limit n seed : ℕ) (packet output : List ℕ)
   -- all trials with fewer than f flips are counted, m of those with f, and none of the others
   record Standing (f m : ℕ) (t : Tried) : Type 0 where
     long : length (t .packet) ≡ length packet
-    last : 1 ≤ m → (y : ℕ) × (t .packet ≡ received c k (length packet) f y)
+    last : 1 ≤ m → (y : ℕ) × (t .packet ≡ received c k (length packet) f y) × (t .state ≡ stateAfter f (stateAfter (length packet) y))
     nine : length (t .counts) ≡ suc mostFlips
     done : (i : ℕ) → i < f → Row limit i n (getD (t .counts) i [])
     begun : Row limit f m (getD (t .counts) f [])
@@ -125,7 +126,12 @@ module _ (c : Crc) (k : Check) (limit n seed : ℕ) (packet output : List ℕ)
       let one = comes f (t .state) h in
       record {
         long = rw (q .long) (one .0);
-        last = λ some. (t .state, ap (λ (l : ℕ). received c k l f (t .state)) (q .long));
+        last =
+            λ some. (
+              t .state,
+              ap (λ (l : ℕ). received c k l f (t .state)) (q .long),
+              ap (λ (l : ℕ). stateAfter f (stateAfter l (t .state))) (q .long),
+            );
         nine = length-set (t .counts) f _ ∙ q .nine;
         done = λ i l. rw (getD-set-other (t .counts) f i _ [] (λ e. omega arith)) (q .done i l);
         begun = rw (q .long, getD-set-same (t .counts) f _ [] (omega (arith, q .nine))) (one-more _ (q .begun) (one .1));
@@ -177,6 +183,7 @@ module _ (c : Crc) (k : Check) (limit n seed : ℕ) (packet output : List ℕ)
       let long : (i : ℕ) → i < length cs → length (getD cs i []) ≡ 5 = λ i l. row-long (row-of i (omega (arith, counts-nine))) in
       row-read _ (λ col l. joined-at cs f col long l refl) (row-of f h)
 
-  -- the packet is the one that the last trial received
-  pub last-received : 1 ≤ n → (y : ℕ) × (left .packet ≡ received c k (length packet) mostFlips y)
+  -- the packet is the one that the last trial received: that which began where its bytes and draws lead to the last state
+  pub last-received : 1 ≤ n
+      → (y : ℕ) × (left .packet ≡ received c k (length packet) mostFlips y) × (left .state ≡ stateAfter mostFlips (stateAfter (length packet) y))
   last-received = stands .last

@@ -29,7 +29,7 @@ module _ (c : Crc) (k : Check) (limit f n : ℕ) where
 
   trial-within : (t : Tried) (m : ℕ) → Within (t .counts) m → Within (trial c k limit f t .counts) (suc m)
   unfolding trial
-  trial-within t m w = counted-within f _ (t .counts) w
+  trial-within t m w = counted-within _ _ (t .counts) w
 
   pub row-run-more : {start t u : Tried} {i : ℕ} → RowRun c k limit f n start t i → i < n → u ≡ trial c k limit f t → RowRun c k limit f n start u (i + 1)
   unfolding trials

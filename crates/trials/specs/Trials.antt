@@ -17,7 +17,7 @@ use Rattle.verdicts.specs.Verdicts.{Said, intact, repaired, several, nothing, v
 abbrev pub mostFlips : ℕ
 mostFlips = 8
 
--- are two packets the same?
+-- are two lists of numbers the same?
 unfoldable pub same : List ℕ → List ℕ → Bool
 same [] [] = true
 same [] (b ∷ t) = false

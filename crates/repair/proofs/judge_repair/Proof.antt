@@ -11,7 +11,8 @@ use Rattle.poly.specs.Polynomial.{degree}
 use Rattle.poly.specs.declared.Generator.{Generator}
 use Rattle.packet.specs.Packet.{crcOf}
 use Rattle.checksum.specs.Checksum.{unfitRange}
-use Rattle.repair.specs.Calls.{repairRequest, settingConditions, repairConditions}
+use Rattle.repair.specs.Calls.{repairRequest, repairConditions}
+use Rattle.repair.specs.Settings.{settingConditions}
 use Rattle.repair.proofs.ConditionLaws.{copy-unfit, copy-fit}
 use Rattle.repair.proofs.judge_repair.Statement.{statement}
 use Rattle.repair.proofs.judge_repair.Tie as tie

@@ -16,7 +16,7 @@ use Rattle.packet.specs.Packet.{crcOf}
 use Rattle.crc.specs.Calls.{packetConditions}
 use Rattle.tables.specs.Tables.{unfitTables, rightTables, wrongTables}
 use Rattle.tables.proofs.TableLaws.{fit-lengths, not-wrong}
-use Rattle.repair.specs.Calls.{settingConditions}
+use Rattle.repair.specs.Settings.{settingConditions}
 use Rattle.repair.proofs.judge_settings.Statement.{statement}
 use Rattle.repair.proofs.judge_settings.Tie as tie
 

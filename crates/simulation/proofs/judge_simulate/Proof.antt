@@ -11,7 +11,7 @@ use Rattle.poly.specs.Polynomial.{degree}
 use Rattle.poly.specs.declared.Generator.{Generator}
 use Rattle.packet.specs.Packet.{crcOf}
 use Rattle.checksum.specs.Checksum.{unfitRange}
-use Rattle.repair.specs.Calls.{settingConditions}
+use Rattle.repair.specs.Settings.{settingConditions}
 use Rattle.simulation.specs.Calls.{simulation, simulateConditions}
 use Rattle.simulation.proofs.judge_simulate.Statement.{statement}
 use Rattle.simulation.proofs.judge_simulate.Tie as tie
