@@ -89,8 +89,8 @@
 //!
 //! The draws are no better than the stream that the packets are made from. Its low bits repeat soon, so the draws are not quite
 //! independent. The first draw of a trial may take few of the positions: with 60 bytes and four flips, 15 of 480. And the places of
-//! draws 0, 2, 4 and 6 are all even or all odd. Where counts were compared with those of independent draws, the difference was a few
-//! per cent at most.
+//! draws 0, 2, 4 and 6 are all even or all odd. Where counts were compared with those of independent draws, they differed by up
+//! to 7 per cent.
 //!
 //! # How long it takes
 //!
