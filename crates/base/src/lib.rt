@@ -1,9 +1,11 @@
 // What every layer shares: the reasons for which a call is refused, and what the judgement on a call says.
+#![tactic(auto)]
+
 ghost use Rattle.std.specs.Prelude.{◌≡◌};
 ghost use Rattle.base.specs.Refusals.{number};
 
 // One case for each condition of the table of refusals; specs/Refusals.antt gives its number.
-#[derive(Drop)]
+#[derive(Clone, Copy)]
 pub enum Refusal {
     Generator,
     Length,
@@ -22,7 +24,7 @@ pub enum Refusal {
 }
 
 // What testing a call's conditions in their order comes to.
-#[derive(Drop)]
+#[derive(Clone, Copy)]
 pub enum Judgement {
     Passed,
     Refused(Refusal),

@@ -1,4 +1,6 @@
 // Division by the generator ccitt, a byte at a time.
+#![tactic(auto)]
+
 ghost use Rattle.std.specs.Prelude.{◌≡◌, ◌+◌, ◌*◌};
 ghost use Rattle.poly.specs.Polynomial.{rem};
 ghost use Rattle.poly.specs.Generators.{ccitt};

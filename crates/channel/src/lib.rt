@@ -1,4 +1,6 @@
 // The channel: positions of a packet are drawn from the stream, each once.
+#![tactic(auto)]
+
 ghost use Rattle.std.specs.Prelude.{◌≡◌, ◌++◌, ◌∷◌, ℕ, ◌+◌, ◌-◌, ◌<◌, ◌≤◌, ltb, length, get_or, take, drop};
 ghost use Rattle.base.specs.Lists.{Ascending};
 ghost use Rattle.patterns.specs.Listing.{inserted};

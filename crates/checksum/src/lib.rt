@@ -1,5 +1,7 @@
 // The checksum of RFC 1071: sums of bytes, the range and field of the second check, and the stamp, with what RFC 768 says of a field
 // of zero.
+#![tactic(auto)]
+
 ghost use Rattle.std.specs.Prelude.{◌≡◌, ◌+◌, ◌*◌, ◌≤◌, ◌<◌, length, get_or};
 ghost use Rattle.base.specs.Judged.{judgement, judged};
 ghost use Rattle.checksum.specs.Checksum.{
@@ -24,14 +26,14 @@ use poly::Generator;
 
 // What the second check is taken by: the bytes of the packet from `from` on and before `to`, and the field, whose first byte
 // is at `field`. Where `from` and `to` are equal there is no second check, and `field` is not looked at.
-#[derive(Drop)]
+#[derive(Clone, Copy)]
 pub struct Check {
     pub from: usize,
     pub to: usize,
     pub field: usize,
 }
 
-#[derive(Drop)]
+#[derive(Clone, Copy)]
 pub enum StampAnswer {
     Stamped,
     Refused(Refusal),

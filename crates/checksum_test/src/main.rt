@@ -1,4 +1,6 @@
 // Compares sum and stamp with vectors that were worked by other code (see stdout).
+#![tactic(auto)]
+
 use checksum::{Check, StampAnswer, check_of};
 use crc::RemainderAnswer;
 use libc::STDOUT_FILENO;

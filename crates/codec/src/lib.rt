@@ -1,4 +1,6 @@
 // Marks and verdicts as bytes, as the C functions take and write them.
+#![tactic(auto)]
+
 ghost use Rattle.std.specs.Prelude.{◌≡◌, [], ◌∷◌, ◌≤◌, length, drop, replicate};
 ghost use Rattle.packet.specs.Packet.{bytes_of};
 ghost use Rattle.patterns.specs.Patterns.{most_positions, positions, point_of};

@@ -1,4 +1,6 @@
 // The calls remainder and seal.
+#![tactic(auto)]
+
 ghost use Rattle.std.specs.Prelude.{◌≡◌, ◌*◌, length};
 ghost use Rattle.std.specs.Int.Bits.{bit_xor};
 ghost use Rattle.base.specs.Judged.{judgement, judged};
@@ -19,13 +21,13 @@ use packet::{Crc, crc_of};
 use poly::Generator;
 use remainders::remainder_of;
 
-#[derive(Drop)]
+#[derive(Clone, Copy)]
 pub enum RemainderAnswer {
     Remainder(u64),
     Refused(Refusal),
 }
 
-#[derive(Drop)]
+#[derive(Clone, Copy)]
 pub enum SealAnswer {
     Sealed,
     Refused(Refusal),

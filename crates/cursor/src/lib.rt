@@ -1,6 +1,8 @@
 // A cursor over the sets of the list, each met once, in the order that suits the search. Powers of x and the period belong to a
 // generator and a length: they are prepared once and serve every syndrome. The positions of the set at hand stand in front of a
 // lent slice.
+#![tactic(auto)]
+
 ghost use Rattle.std.specs.Prelude.{◌≡◌, ◌≤◌, length, take};
 ghost use Rattle.poly.specs.Fit.{Fit};
 ghost use Rattle.tables.specs.Tables.{power, values};
@@ -13,7 +15,7 @@ use poly::Generator;
 use search::Found;
 
 // What the sets of a syndrome are sought by, beside the powers of x and the first positions.
-#[derive(Drop)]
+#[derive(Clone, Copy)]
 pub struct Cursor {
     pub generator: Generator,
     pub period: u64,

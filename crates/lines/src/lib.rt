@@ -1,4 +1,6 @@
 // Text that the programs write: lines of patterns and refusals.
+#![tactic(auto)]
+
 ghost use Rattle.std.specs.Prelude.{[], ◌∷◌, ◌++◌, ◌+◌, ◌*◌, ◌<◌, ◌≤◌, length, drop};
 ghost use Rattle.base.specs.Refusals.{number};
 ghost use Rattle.records.specs.Records.{positions_in, patterns_in};

@@ -1,4 +1,6 @@
 // Prints what is read of lines that are right or wrong at one place, and the text of a few records.
+#![tactic(auto)]
+
 use base::Refusal;
 
 // As many numbers as there is room for, and whether the input is a line of so many.

@@ -1,5 +1,7 @@
 // Lists the error patterns that one line of input asks for, "generator L N syndrome". What is printed for an input is the
 // definition `Prints` of the crate lister; here bytes are moved, and nothing else is done.
+#![tactic(auto)]
+
 ghost use Rattle.std.specs.Prelude.{◌≡◌, ◌<◌, ◌≤◌, length};
 ghost use Rattle.lister.specs.Turns.{longest_line, Sound, entries_for, most_entries, Tabled, HasRoom};
 

@@ -1,4 +1,6 @@
 // The listing program's work: a line of input is judged, and what is to be printed is written turn by turn.
+#![tactic(auto)]
+
 ghost use Rattle.std.specs.Prelude.{◌≡◌, false, List, ℕ, ◌^◌, ◌<◌, ◌≤◌, length};
 ghost use Rattle.base.specs.Judged.{judgement, judged};
 ghost use Rattle.poly.specs.Polynomial.{degree};
@@ -31,7 +33,7 @@ pub const GREATEST_LISTED: u32 = 14;
 pub const MOST_ENTRIES: usize = 1 << GREATEST_LISTED;
 
 // The numbers of a line.
-#[derive(Drop)]
+#[derive(Clone, Copy)]
 pub struct Settings {
     pub generator: u64,
     pub bits: usize,
@@ -40,7 +42,7 @@ pub struct Settings {
 }
 
 // What is due to be printed: a line, or what follows a mark of the list, after so many of its patterns.
-#[derive(Drop)]
+#[derive(Clone, Copy)]
 pub enum Due {
     Bad,
     Refused(Refusal),
@@ -48,7 +50,7 @@ pub enum Due {
 }
 
 // So many bytes of text; they are the last, or something else is due after them.
-#[derive(Drop)]
+#[derive(Clone, Copy)]
 pub enum Turn {
     Last(usize),
     More(usize, Due),

@@ -1,5 +1,7 @@
 // The list of error patterns in its order: begun at a mark, and advanced from pattern to pattern. The positions of the pattern at
 // hand stand in front of a lent slice, and nothing else is kept between two patterns.
+#![tactic(auto)]
+
 ghost use Rattle.std.specs.Prelude.{◌≡◌, ◌≤◌, length, take};
 ghost use Rattle.base.specs.Lists.{Ascending};
 ghost use Rattle.patterns.specs.Patterns.{positions, point_of};

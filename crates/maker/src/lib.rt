@@ -1,4 +1,6 @@
 // The packet maker: a few numbers, and from them the same packet every time.
+#![tactic(auto)]
+
 ghost use Rattle.std.specs.Prelude.{◌≡◌, ◌+◌, ◌*◌, ◌%◌, ◌^◌, ◌≤◌, length};
 ghost use Rattle.base.specs.Judged.{judgement, judged};
 ghost use Rattle.packet.specs.Packet.{crc_of};
@@ -11,7 +13,7 @@ use checksum::Check;
 use packet::Crc;
 use poly::Generator;
 
-#[derive(Drop)]
+#[derive(Clone, Copy)]
 pub enum MakeAnswer {
     Made(u32),
     Refused(Refusal),

@@ -1,4 +1,6 @@
 // Compares the packet maker and its stream with numbers and packets that were made by other code (see stdout).
+#![tactic(auto)]
+
 ghost use Rattle.std.specs.Prelude.{◌<◌};
 
 use maker::MakeAnswer;

@@ -1,5 +1,7 @@
 // The sets whose powers have a given sum, in the list's order: the first, and the first that follows a set, count by count. Counts that
 // parity rules out are skipped. Contracts hold for any powers that the two tables describe.
+#![tactic(auto)]
+
 ghost use Rattle.std.specs.Prelude.{ℕ, ◌+◌, ◌≤◌, length, take};
 ghost use Rattle.base.specs.Lists.{Ascending};
 ghost use Rattle.patterns.specs.Order.{before};

@@ -1,4 +1,6 @@
 // A packet: what its CRC is taken by, the conditions on its length and on these values, and bits that flip.
+#![tactic(auto)]
+
 ghost use Rattle.std.specs.Prelude.{◌≡◌, ℕ, ◌*◌, ◌<◌};
 ghost use Rattle.base.specs.Lists.{All};
 ghost use Rattle.poly.specs.Fit.{Fit};
@@ -15,7 +17,7 @@ ghost use Rattle.packet.specs.Packet.{
 use poly::Generator;
 
 // What a CRC is taken by.
-#[derive(Drop)]
+#[derive(Clone, Copy)]
 pub struct Crc {
     pub generator: Generator,
     pub init: u64,

@@ -2,11 +2,13 @@
 //
 // The input: the number of cases, then for each the high and low 32 bits of the generator, of the initial
 // and of the final value, the packet's length in bytes, and its bytes as testkit::read_packet takes them.
+#![tactic(auto)]
+
 use crc::{RemainderAnswer, SealAnswer};
 use libc::STDIN_FILENO;
 
 // The numbers that a CRC is taken by.
-#[derive(Drop)]
+#[derive(Clone, Copy)]
 struct Setting {
     generator: u64,
     init: u64,

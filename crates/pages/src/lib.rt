@@ -1,4 +1,6 @@
 // The page call: its conditions, and the page behind them.
+#![tactic(auto)]
+
 ghost use Rattle.std.specs.Prelude.{◌≡◌};
 ghost use Rattle.base.specs.Judged.{judgement, judged};
 ghost use Rattle.patterns.specs.Patterns.{point_of};
@@ -11,7 +13,7 @@ use patterns::Mark;
 use poly::Generator;
 use records::LONGEST_RECORD;
 
-#[derive(Drop)]
+#[derive(Clone, Copy)]
 pub enum PageAnswer {
     Paged(PageResult),
     Refused(Refusal),

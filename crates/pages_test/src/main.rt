@@ -5,13 +5,15 @@
 // limit and syndrome of the calls; over how many syndromes from that one on; the first mark (its count, 5 Start, 6 Ended;
 // four positions); the least room, of how many sizes in turn, and at most how many calls. Generators, lengths, limits and
 // syndromes are given by their high and low 32 bits.
+#![tactic(auto)]
+
 use libc::STDIN_FILENO;
 use pages::PageAnswer;
 use paging::PageResult;
 use patterns::{Mark, Pattern};
 
 // What every call of a sequence is given.
-#[derive(Drop)]
+#[derive(Clone, Copy)]
 struct Setting {
     generator: u64,
     bits: usize,
@@ -20,7 +22,7 @@ struct Setting {
 }
 
 // The room of each call, and the number of calls.
-#[derive(Drop)]
+#[derive(Clone, Copy)]
 struct Plan {
     base: u64,
     sizes: u64,
@@ -28,7 +30,7 @@ struct Plan {
 }
 
 // What a sequence has come to: the mark reached, hashes of the bytes used and of those beyond, and sums.
-#[derive(Drop)]
+#[derive(Clone, Copy)]
 struct Run {
     mark: Mark,
     used: u64,
@@ -40,7 +42,7 @@ struct Run {
 }
 
 // A mark that was read, and the place behind it.
-#[derive(Drop)]
+#[derive(Clone, Copy)]
 struct Marked {
     mark: Mark,
     next: usize,

@@ -1,4 +1,6 @@
 // What a page does behind its conditions: the records of the listed patterns that follow a mark, as many as fit.
+#![tactic(auto)]
+
 ghost use Rattle.std.specs.Prelude.{◌≡◌, ◌≤◌, length};
 ghost use Rattle.patterns.specs.Patterns.{most_positions, point_of};
 ghost use Rattle.patterns.specs.Order.{before};
@@ -15,7 +17,7 @@ use patterns::{MOST_POSITIONS, Mark, Pattern};
 use poly::Generator;
 use search::Found;
 
-#[derive(Drop)]
+#[derive(Clone, Copy)]
 pub struct PageResult {
     pub used: usize,
     pub written: u64,

@@ -1,11 +1,13 @@
 // A line of numbers, read.
+#![tactic(auto)]
+
 ghost use Rattle.std.specs.Prelude.{◌≡◌, length, drop};
 ghost use Rattle.std.proofs.lemmas.List.Edits.{sets};
 ghost use Rattle.parsing.specs.Input.{closing};
 ghost use Rattle.parsing.specs.Parsing.{read, reading_of, numbers_in, whole_line};
 
 // A number with the place after its closing byte; or none.
-#[derive(Drop)]
+#[derive(Clone, Copy)]
 pub enum Numeral {
     Number(u64, usize),
     Missing,

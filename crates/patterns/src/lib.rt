@@ -1,4 +1,6 @@
 // Error patterns, marks, and a pattern as a slice of its positions.
+#![tactic(auto)]
+
 ghost use Rattle.std.specs.Prelude.{◌≡◌, ◌++◌, ◌≤◌, length, take, drop};
 ghost use Rattle.poly.specs.Fit.{Fit};
 ghost use Rattle.patterns.specs.Patterns.{most_positions, positions, point_of};
@@ -13,7 +15,7 @@ use poly::Generator;
 pub const MOST_POSITIONS: usize = 4;
 
 // A set of positions, by their count, in ascending order.
-#[derive(Drop)]
+#[derive(Clone, Copy)]
 pub enum Pattern {
     Empty,
     One(u16),
@@ -23,7 +25,7 @@ pub enum Pattern {
 }
 
 // Where a page takes up the list.
-#[derive(Drop)]
+#[derive(Clone, Copy)]
 pub enum Mark {
     Start,
     Ended,

@@ -1,6 +1,8 @@
 // Positions placed one after the other, so that their powers have a given sum: all but the last are forced, and the last is looked
 // up. `pow` holds the powers of x at the positions below its length, `first` the first position of each remainder. Contracts hold
 // for any powers that the two tables describe.
+#![tactic(auto)]
+
 ghost use Rattle.std.specs.Prelude.{◌≡◌, ℕ, ◌≤◌, length};
 ghost use Rattle.base.specs.Lists.{Ascending};
 ghost use Rattle.placing.specs.Placing.{answer, first_after, Lookup, Nearest, Placed, Ready};

@@ -1,4 +1,6 @@
 // The generator type: a binary polynomial as a number, 2^i standing for x^i, with its degree.
+#![tactic(auto)]
+
 ghost use Rattle.std.specs.Prelude.{◌≡◌, ◌*◌, ◌^◌, ◌<◌};
 ghost use Rattle.poly.specs.Polynomial.{rem, reduce};
 ghost use Rattle.poly.specs.Generators.{unfit, construction, constructed, generator_of, five, ccitt};
@@ -11,13 +13,13 @@ pub const LEAST_DEGREE: u32 = 3;
 
 pub const GREATEST_DEGREE: u32 = 16;
 
-#[derive(Drop)]
+#[derive(Clone, Copy)]
 pub struct Generator {
     pub coefficients: u64,
     pub degree: u32,
 }
 
-#[derive(Drop)]
+#[derive(Clone, Copy)]
 pub enum Construction {
     Made(Generator),
     Refused(Refusal),
@@ -90,6 +92,7 @@ pub fn unfit_generator(coefficients: u64) -> bool
 }
 
 // x times the remainder `t`, reduced.
+#[tactic(auto, unfolding(crate::specs::Polynomial::reduce))]
 pub fn times_x(g: Generator, t: u64) -> u64
     requires { Fit g × (t < 2 ^ g.degree) }
     ensures { result ≡ reduce g.degree g.coefficients (t * 2) }

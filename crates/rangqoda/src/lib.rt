@@ -1,5 +1,7 @@
 // The library as C functions, which include/rangqoda.h documents. Each calls one call of the layers below and takes its
 // answer apart: a number is returned, and what else there is to tell goes into lent memory.
+#![tactic(auto)]
+
 ghost use Rattle.std.specs.Prelude.{◌≡◌, eqb};
 ghost use Rattle.base.specs.Outcome.{pick};
 ghost use Rattle.packet.specs.Packet.{crc_of};

@@ -1,4 +1,6 @@
 // Records of patterns as bytes, both ways.
+#![tactic(auto)]
+
 ghost use Rattle.std.specs.Prelude.{◌≡◌, ◌+◌, ◌*◌, ◌<◌, ◌≤◌, length};
 ghost use Rattle.records.specs.Records.{positions_in};
 ghost use Rattle.records.specs.Slices.{RecordPut};

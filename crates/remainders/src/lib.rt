@@ -1,4 +1,6 @@
 // Taking the remainder of a packet: bit by bit by any generator, and with one look-up a byte by ccitt.
+#![tactic(auto)]
+
 ghost use Rattle.std.specs.Prelude.{◌≡◌, suc, ◌+◌, ◌*◌, ◌^◌, ◌≤◌, ◌<◌, length, take};
 ghost use Rattle.poly.specs.Fit.{Fit};
 ghost use Rattle.poly.specs.Generators.{ccitt};

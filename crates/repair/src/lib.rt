@@ -1,4 +1,6 @@
 // The repair call, and the handing back of the packet to publish from.
+#![tactic(auto)]
+
 ghost use Rattle.std.specs.Prelude.{◌≡◌, ◌*◌, ◌≤◌, length};
 ghost use Rattle.base.specs.Judged.{judgement, judged};
 ghost use Rattle.packet.specs.Packet.{bits, crc_of};
@@ -23,7 +25,7 @@ use packet::{Crc, MOST_BITS};
 use poly::Generator;
 use verdicts::Verdict;
 
-#[derive(Drop)]
+#[derive(Clone, Copy)]
 pub enum RepairAnswer {
     Decided(Verdict),
     Refused(Refusal),

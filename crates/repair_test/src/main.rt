@@ -5,13 +5,15 @@
 // and final value, range, field and limit of the calls, the packet's length and its bytes as testkit::read_packet takes them,
 // the room for the output, a first position, and how many from there on are flipped in turn, each alone, after a call with none.
 // The numbers of a call are given by their high and low 32 bits.
+#![tactic(auto)]
+
 use checksum::Check;
 use libc::STDIN_FILENO;
 use repair::RepairAnswer;
 use verdicts::Verdict;
 
 // What every call of a case is given.
-#[derive(Drop)]
+#[derive(Clone, Copy)]
 struct Setting {
     generator: u64,
     init: u64,

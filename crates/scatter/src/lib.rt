@@ -1,5 +1,7 @@
 // Bytes scattered before storage, so that a run of lost ones is spread over many rows: written into a block by rows and read by
 // columns; and the way back.
+#![tactic(auto)]
+
 ghost use Rattle.std.specs.Prelude.{◌≡◌, ◌+◌, ◌*◌, ◌<◌, ◌≤◌, length};
 ghost use Rattle.base.specs.Judged.{judgement, judged};
 ghost use Rattle.scatter.specs.Blocks.{scattered};
@@ -18,7 +20,7 @@ ghost use Rattle.scatter.specs.Steps.{Block, Part};
 
 use base::{Judgement, Refusal};
 
-#[derive(Drop)]
+#[derive(Clone, Copy)]
 pub enum BlockAnswer {
     Rearranged,
     Refused(Refusal),

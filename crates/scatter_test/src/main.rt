@@ -2,6 +2,8 @@
 //
 // The input: the number of cases. A case: rows and columns, each by its high and low 32 bits; how many bytes the input has, and how
 // many the output; the seed of the input's bytes.
+#![tactic(auto)]
+
 use libc::STDIN_FILENO;
 use scatter::BlockAnswer;
 

@@ -1,6 +1,8 @@
 // The search for the first set that is met, and for the first after one: count by count, and within a count by the
 // placing of positions. Counts that parity rules out are skipped; of the generator only its number of ones is asked. Contracts hold
 // for any powers that the two tables describe.
+#![tactic(auto)]
+
 ghost use Rattle.std.specs.Prelude.{◌≡◌, ℕ, ◌+◌, ◌-◌, ◌≤◌, length, take};
 ghost use Rattle.base.specs.Lists.{Ascending};
 ghost use Rattle.placing.specs.Placing.{answer, first_after, head_of, Lookup, Placed, Ready, summing};
@@ -14,7 +16,7 @@ ghost use Rattle.search.specs.Search.{
   ruled_out,
 };
 
-#[derive(Drop)]
+#[derive(Clone, Copy)]
 pub enum Found {
     At(usize),
     Nothing,

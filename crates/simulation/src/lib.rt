@@ -1,4 +1,6 @@
 // The simulation's call: its conditions, and the trials behind them.
+#![tactic(auto)]
+
 ghost use Rattle.std.specs.Prelude.{◌≡◌, ℕ, ◌≤◌, length};
 ghost use Rattle.base.specs.Judged.{judgement, judged};
 ghost use Rattle.packet.specs.Packet.{bits, crc_of};
@@ -24,7 +26,7 @@ use packet::{Crc, MOST_BITS};
 use poly::Generator;
 use trials::{COLUMNS, COUNTS, MOST_FLIPS, ROWS};
 
-#[derive(Drop)]
+#[derive(Clone, Copy)]
 pub enum SimulateAnswer {
     Simulated(u32),
     Refused(Refusal),

@@ -4,6 +4,8 @@
 // the place; what is XORed in), how many entries of each are lent, and the number of its cases. A case: generator, initial
 // and final value, range, field, limit and trials of the call, each by its high and low 32 bits; then its seed, the lengths of
 // packet, output and counts, and the seed from which these three are filled before the call.
+#![tactic(auto)]
+
 use checksum::Check;
 use libc::STDIN_FILENO;
 use simulation::SimulateAnswer;
@@ -12,7 +14,7 @@ use simulation::SimulateAnswer;
 const MOST_COUNTS: usize = 64;
 
 // What a call is given, apart from what is lent to it.
-#[derive(Drop)]
+#[derive(Clone, Copy)]
 struct Setting {
     generator: u64,
     init: u64,

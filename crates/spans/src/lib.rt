@@ -1,6 +1,8 @@
 // Sets of two positions or more whose powers have a given sum, by their ends: the first of one span, and the first that follows a set
 // between the same ends. The ends are gone through, and the positions between them are placed. Contracts hold for any powers that
 // the two tables describe.
+#![tactic(auto)]
+
 ghost use Rattle.std.specs.Prelude.{◌≡◌, ℕ, ◌-◌, ◌<◌, ◌≤◌, length, get_or};
 ghost use Rattle.base.specs.Lists.{Ascending};
 ghost use Rattle.patterns.specs.Order.{before};

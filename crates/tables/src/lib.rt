@@ -1,4 +1,6 @@
 // The two tables of a generator and its period.
+#![tactic(auto)]
+
 ghost use Rattle.std.specs.Prelude.{◌≡◌, ◌^◌, length, replicate};
 ghost use Rattle.base.specs.Judged.{judgement, judged};
 ghost use Rattle.poly.specs.Fit.{Fit};
@@ -15,7 +17,7 @@ ghost use Rattle.tables.specs.Calls.{
 use base::{Judgement, Refusal};
 use poly::Generator;
 
-#[derive(Drop)]
+#[derive(Clone, Copy)]
 pub enum TablesAnswer {
     Built(u64),
     Refused(Refusal),

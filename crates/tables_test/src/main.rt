@@ -3,6 +3,8 @@
 // The expected output was not made by this code. Five's first positions are those of tables 2 and 3 of Boussard and others
 // (docs/RULES.md, sources), with 65535 for their -1; its steps were found by trying every t. The periods of the catalogue's
 // generators are the least exponents whose powers, by squaring, leave 1.
+#![tactic(auto)]
+
 ghost use Rattle.std.specs.Prelude.{◌≡◌, ◌≤◌, length};
 
 use poly::{Construction, Generator};

@@ -1,5 +1,7 @@
 // Tallies of candidates: how many listed sets lead to a packet that passes the second check, and the earliest of them in the list. They
 // are taken in the order in which a cursor meets the sets, and do not depend on it.
+#![tactic(auto)]
+
 ghost use Rattle.std.specs.Prelude.{◌≡◌, List, ◌++◌, ℕ, ◌+◌, ◌^◌, ◌<◌, ◌≤◌, length};
 ghost use Rattle.packet.specs.Packet.{bits, flips};
 ghost use Rattle.checksum.specs.Checksum.{passes};
@@ -17,7 +19,7 @@ use search::Found;
 use weighing::Weighed;
 
 // How many candidates pass so far, and the earliest of them in the list, in whatever order they were met.
-#[derive(Drop)]
+#[derive(Clone, Copy)]
 pub struct Tally {
     pub count: u64,
     pub chosen: Pattern,

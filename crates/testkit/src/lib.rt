@@ -1,4 +1,6 @@
 // What the test programs share: numbers of a text, bytes from a seed, a hash, tables with a change, and printing.
+#![tactic(auto)]
+
 ghost use Rattle.std.specs.Prelude.{◌^◌, ◌<◌, ◌≤◌, length};
 
 use base::Refusal;
@@ -6,7 +8,7 @@ use libc::STDOUT_FILENO;
 use patterns::{MOST_POSITIONS, Pattern};
 
 // A number that was read from a text, and the place behind its last digit.
-#[derive(Drop)]
+#[derive(Clone, Copy)]
 pub struct Reading {
     pub value: u64,
     pub next: usize,

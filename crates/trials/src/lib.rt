@@ -1,4 +1,6 @@
 // Trials: a packet is made, bits of it flip, and what a repair says of it is counted, in an array of rows that is passed on by value.
+#![tactic(auto)]
+
 ghost use Rattle.std.specs.Prelude.{◌≡◌, List, ℕ, suc, ◌*◌, ◌<◌, ◌≤◌, length};
 ghost use Rattle.base.specs.Lists.{Ascending};
 ghost use Rattle.packet.specs.Packet.{Bytes, bits, flips};
@@ -38,7 +40,7 @@ pub const COLUMNS: usize = 5;
 pub const COUNTS: usize = ROWS * COLUMNS;
 
 // What a trial comes to.
-#[derive(Drop)]
+#[derive(Clone, Copy)]
 struct Trial {
     state: u32,
     column: usize,

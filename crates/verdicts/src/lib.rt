@@ -1,5 +1,7 @@
 // What a repair does behind its conditions: the verdict on a packet, from powers of x, first positions and a period that are lent,
 // and the mended packet.
+#![tactic(auto)]
+
 ghost use Rattle.std.specs.Prelude.{◌≡◌, ◌&&◌, List, eqb, ℕ, ◌<◌, length};
 ghost use Rattle.base.specs.Lists.{All};
 ghost use Rattle.packet.specs.Packet.{bits, flips};
@@ -18,7 +20,7 @@ use patterns::Pattern;
 use tallies::Tally;
 use weighing::Weighed;
 
-#[derive(Drop)]
+#[derive(Clone, Copy)]
 pub enum Verdict {
     Intact,
     Repaired(Pattern),

@@ -1,4 +1,6 @@
 // The verification of tables that are lent.
+#![tactic(auto)]
+
 ghost use Rattle.std.specs.Prelude.{◌≡◌, ◌/◌, eqb, ◌↔◌};
 ghost use Rattle.tables.specs.Tables.{step_table, first_table, same, right_tables};
 ghost use Rattle.tables.specs.Lent.{Lent};

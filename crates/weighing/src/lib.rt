@@ -1,4 +1,6 @@
 // The second check of a packet with flipped bits, from the total of its range and the weights of the bits.
+#![tactic(auto)]
+
 ghost use Rattle.std.specs.Prelude.{◌≡◌, ◌≢◌, ◌+◌, ◌≤◌, ◌<◌, length};
 ghost use Rattle.base.specs.Lists.{Ascending};
 ghost use Rattle.packet.specs.Packet.{bits, flips};
@@ -10,7 +12,7 @@ use checksum::{Check, word_at};
 use packet::bit_of;
 
 // A check, with the plain total of its range in one packet, and the number that is in its field there.
-#[derive(Drop)]
+#[derive(Clone, Copy)]
 pub struct Weighed {
     pub check: Check,
     pub total: u64,
@@ -18,7 +20,7 @@ pub struct Weighed {
 }
 
 // What a flip adds to a total, and what it takes away.
-#[derive(Drop)]
+#[derive(Clone, Copy)]
 struct Change {
     plus: u64,
     minus: u64,

@@ -1,5 +1,7 @@
 // The sets of one count whose powers have a given sum, in the list's order: the first, and the first that follows a set. Sets of two
 // positions or more go by their spans, the narrowest first. Contracts hold for any powers that the two tables describe.
+#![tactic(auto)]
+
 ghost use Rattle.std.specs.Prelude.{ℕ, ◌-◌, ◌≤◌, length};
 ghost use Rattle.base.specs.Lists.{Ascending};
 ghost use Rattle.patterns.specs.Order.{before};

@@ -13,6 +13,6 @@ returns c =
     let s = c.before in
     by_entry s.args.r s.args.b s.ranges.r.fits s.ranges.b.fits s.requires (omega arith) (omega arith)
 
-pub append-spec : {M : Type 1} → statement M
-append-spec =
+pub append_spec : {M : Type 1} → statement M
+append_spec =
     tie.close (tie.spec (λ c. search rules) (λ c. search rules) shared-slice-read-result (λ c. search rules) (λ c. search rules) returns)

@@ -31,8 +31,8 @@ loop-again c =
 returns-2 : tie.Need-returns-2 invariant-loop decreases-loop
 returns-2 c = let i = c.before.loop.invariant in (i.0, λ l a. gap_met _ a i.0 i.1 (λ h. absurd (omega arith)))
 
-pub below-spec : {M : Type 1} → statement M
-below-spec =
+pub below_spec : {M : Type 1} → statement M
+below_spec =
     tie.close
     (tie.spec
     invariant-loop

@@ -38,8 +38,8 @@ loop-again c =
 returns : tie.Need-returns invariant-loop decreases-loop
 returns c = drawing_all c.before.loop.invariant (omega arith)
 
-pub draw-spec : {M : Type 1} → statement M
-draw-spec =
+pub draw_spec : {M : Type 1} → statement M
+draw_spec =
     tie.close
     (tie.spec
     invariant-loop

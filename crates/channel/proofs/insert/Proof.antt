@@ -20,8 +20,8 @@ loop-again c = let l = c.before.before.loop in moved_more _ l.invariant (omega (
 returns : tie.Need-returns invariant-loop decreases-loop
 returns c = moved_all _ c.before.loop.invariant (omega arith)
 
-pub insert-spec : {M : Type 1} → statement M
-insert-spec =
+pub insert_spec : {M : Type 1} → statement M
+insert_spec =
     tie.close
     (tie.spec
     invariant-loop

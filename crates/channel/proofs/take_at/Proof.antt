@@ -41,8 +41,8 @@ returns c l a h =
     ∙ put_between taken (omega arith) g
     ∙ sym (ap (λ (p : ℕ). inserted ltb p taken) (untaken_at s.args.place taken a g refl below))
 
-pub take-at-spec : {M : Type 1} → statement M
-take-at-spec =
+pub take_at_spec : {M : Type 1} → statement M
+take_at_spec =
     tie.close
     (tie.spec
     (λ c. search rules)

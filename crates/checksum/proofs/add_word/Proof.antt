@@ -9,5 +9,5 @@ returns : tie.Need-returns
 unfolding folded
 returns c = (omega arith, omega arith)
 
-pub add-word-spec : {M : Type 1} → statement M
-add-word-spec = tie.close (tie.spec (λ c. search rules) (λ c. search rules) returns)
+pub add_word_spec : {M : Type 1} → statement M
+add_word_spec = tie.close (tie.spec (λ c. search rules) (λ c. search rules) returns)

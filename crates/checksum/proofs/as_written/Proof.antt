@@ -11,5 +11,5 @@ returns c = omega (arith, written_for_zero c.before.args.value (omega (arith, c.
 returns-2 : tie.Need-returns-2
 returns-2 c = sym (written_as_is _ (λ e. omega (arith, e, c.if1.false)))
 
-pub as-written-spec : {M : Type 1} → statement M
-as-written-spec = tie.close (tie.spec returns returns-2)
+pub as_written_spec : {M : Type 1} → statement M
+as_written_spec = tie.close (tie.spec returns returns-2)

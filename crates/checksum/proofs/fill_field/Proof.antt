@@ -14,8 +14,8 @@ returns c =
     stamp_steps _ r.sum.result _ v.as_written.result _ z.write-field.new.0 _ z.write-field.ensures r.sum.ensures (omega arith)
     v.as_written.ensures w.write-field2.ensures
 
-pub fill-field-spec : {M : Type 1} → statement M
-fill-field-spec =
+pub fill_field_spec : {M : Type 1} → statement M
+fill_field_spec =
     tie.close
     (tie.spec
     (λ c κs. search rules)

@@ -57,8 +57,8 @@ returns-4 c = stops (left3 c.before.before) c.before.unfit-field.ensures c.if4.t
 returns-5 : tie.Need-returns-5
 returns-5 c = goes_on (but (left3 c.before.before) c.before.unfit-field.ensures c.if4.false)
 
-pub judge-stamp-spec : {M : Type 1} → statement M
-judge-stamp-spec =
+pub judge_stamp_spec : {M : Type 1} → statement M
+judge_stamp_spec =
     tie.close
     (tie.spec
     (λ c κs. search rules)

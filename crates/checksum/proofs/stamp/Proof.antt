@@ -49,8 +49,8 @@ returns-2 c =
       f.fill-field.ensures ∙ sym (let_through (conditions s) j.judge-stamp.ensures h (λ _. q) (stamped s.args.check q)),
     )
 
-pub stamp-spec : {M : Type 1} → statement M
-stamp-spec =
+pub stamp_spec : {M : Type 1} → statement M
+stamp_spec =
     tie.close
     (tie.spec
     (λ c κs. search rules)

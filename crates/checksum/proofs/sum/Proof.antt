@@ -32,8 +32,8 @@ loop-again c =
 returns : tie.Need-returns invariant-loop decreases-loop
 returns c = sym (sum_past _ _ _ c.loop-test.false) ∙ c.before.loop.invariant.1
 
-pub sum-spec : {M : Type 1} → statement M
-sum-spec =
+pub sum_spec : {M : Type 1} → statement M
+sum_spec =
     tie.close
     (tie.spec
     invariant-loop

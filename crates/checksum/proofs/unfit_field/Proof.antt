@@ -21,5 +21,5 @@ returns-4 c = sym (odd_unfit _ (omega arith) (omega arith) (omega (arith, c.if4.
 returns-5 : tie.Need-returns-5
 returns-5 c = sym (even_fits _ (omega arith) (omega arith) (omega (arith, c.if4.false)))
 
-pub unfit-field-spec : {M : Type 1} → statement M
-unfit-field-spec = tie.close (tie.spec returns returns-2 (λ c. search rules) returns-3 returns-4 returns-5)
+pub unfit_field_spec : {M : Type 1} → statement M
+unfit_field_spec = tie.close (tie.spec returns returns-2 (λ c. search rules) returns-3 returns-4 returns-5)

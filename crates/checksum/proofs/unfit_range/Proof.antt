@@ -24,5 +24,5 @@ returns-3 c =
     ltb_same (a.len - a.check.to) _ (8 * a.len) (8 * a.check.to + a.g.degree) (λ h. omega arith) (λ h. omega arith)
     ∙ sym (range-unfit _ _ _ (omega (arith, c.before.before.if1.false)))
 
-pub unfit-range-spec : {M : Type 1} → statement M
-unfit-range-spec = tie.close (tie.spec returns returns-2 (λ c. search rules) (λ c. search rules) returns-3)
+pub unfit_range_spec : {M : Type 1} → statement M
+unfit_range_spec = tie.close (tie.spec returns returns-2 (λ c. search rules) (λ c. search rules) returns-3)

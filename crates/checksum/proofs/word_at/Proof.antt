@@ -40,8 +40,8 @@ mul-result-2 c = omega (arith, last c)
 returns-2 : tie.Need-returns-2
 returns-2 c = omega (arith, last c, get_or-eq_default c.before.before.args.s.now 0 {n = c.before.before.args.i + 1} c.before.if1.false)
 
-pub word-at-spec : {M : Type 1} → statement M
-word-at-spec =
+pub word_at_spec : {M : Type 1} → statement M
+word_at_spec =
     tie.close
     (tie.spec
     (λ c. search rules)

@@ -17,8 +17,8 @@ returns c =
     let a = c.args in
     ap (λ (i : ℕ). set (set a.packet.now a.field (a.value / 256)) i (a.value % 256)) (omega arith)
 
-pub write-field-spec : {M : Type 1} → statement M
-write-field-spec =
+pub write_field_spec : {M : Type 1} → statement M
+write_field_spec =
     tie.close
     (tie.spec
     (λ c. search rules)

@@ -11,8 +11,8 @@ invariant-loop s n₀ n = n ≤ length s
 abbrev decreases-loop : tie.decreases-loop
 decreases-loop s n₀ n = length s - n
 
-pub show-beginnings-spec : {M : Type 1} → statement M
-show-beginnings-spec =
+pub show_beginnings_spec : {M : Type 1} → statement M
+show_beginnings_spec =
     tie.close
     (tie.spec
     invariant-loop

@@ -11,8 +11,8 @@ invariant-loop s i₀ i = i ≤ length s
 abbrev decreases-loop : tie.decreases-loop
 decreases-loop s i₀ i = length s - i
 
-pub show-bytes-spec : {M : Type 1} → statement M
-show-bytes-spec =
+pub show_bytes_spec : {M : Type 1} → statement M
+show_bytes_spec =
     tie.close
     (tie.spec
     invariant-loop

@@ -10,8 +10,8 @@ invariant-loop generator k₀ k = k ≤ 1728
 abbrev decreases-loop : tie.decreases-loop
 decreases-loop generator k₀ k = 1728 - k
 
-pub show-places-spec : {M : Type 1} → statement M
-show-places-spec =
+pub show_places_spec : {M : Type 1} → statement M
+show_places_spec =
     tie.close
     (tie.spec
     invariant-loop

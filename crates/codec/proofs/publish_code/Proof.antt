@@ -21,6 +21,6 @@ returns-4 : tie.Need-returns-4
 unfolding publish_code
 returns-4 c = search (rules, tests)
 
-pub publish-code-spec : {M : Type 1} → statement M
-publish-code-spec =
+pub publish_code_spec : {M : Type 1} → statement M
+publish_code_spec =
     tie.close (tie.spec returns (λ c. search rules) returns-2 returns-3 returns-4)

@@ -13,5 +13,5 @@ returns c =
     let start = z.before.before.before in
     ap (λ (l : List ℕ). set l 0 start.args.kind) (z.clear.ensures ∙ ap (λ (n : ℕ). replicate n 0) start.requires)
 
-pub put-kind-spec : {M : Type 1} → statement M
-put-kind-spec = tie.close (tie.spec (λ c κs. search rules) (λ c. search rules) (λ c. search rules) returns)
+pub put_kind_spec : {M : Type 1} → statement M
+put_kind_spec = tie.close (tie.spec (λ c κs. search rules) (λ c. search rules) (λ c. search rules) returns)

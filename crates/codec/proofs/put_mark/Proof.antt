@@ -16,8 +16,8 @@ returns-3 : tie.Need-returns-3
 unfolding mark_bytes
 returns-3 c = rw c.before.before.before.before.before.m.given.1 c.before.before.put-pattern.ensures
 
-pub put-mark-spec : {M : Type 1} → statement M
-put-mark-spec =
+pub put_mark_spec : {M : Type 1} → statement M
+put_mark_spec =
     tie.close
     (tie.spec
     (λ c. search rules)

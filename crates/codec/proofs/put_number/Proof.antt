@@ -43,8 +43,8 @@ returns c =
     let e : c.before.loop.i ≡ 0 = omega arith in
     rw e at c.before.loop.invariant.2
 
-pub put-number-spec : {M : Type 1} → statement M
-put-number-spec =
+pub put_number_spec : {M : Type 1} → statement M
+put_number_spec =
     tie.close
     (tie.spec
     invariant-loop

@@ -14,5 +14,5 @@ returns c =
     let z = w.before.before.before.before in
     record_over_zeros (record_of z.before.before.before.before.args.pos.now) _ _ (z.clear.ensures ∙ ap (λ (n : ℕ). replicate n 0) z.before.before.before.before.requires.1) c.before.before.put_record.ensures.content
 
-pub put-padded-spec : {M : Type 1} → statement M
-put-padded-spec = tie.close (tie.spec (λ c κs. search rules) (λ c κs. search rules) (λ c. search rules) returns)
+pub put_padded_spec : {M : Type 1} → statement M
+put_padded_spec = tie.close (tie.spec (λ c κs. search rules) (λ c κs. search rules) (λ c. search rules) returns)

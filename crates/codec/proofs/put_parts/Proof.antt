@@ -47,8 +47,8 @@ returns c =
     (n.put-number.ensures ∙ ap (λ (k : ℕ). bytes_of k s.args.count) (room_eight l x s.requires))
     w.put-pattern.ensures
 
-pub put-parts-spec : {M : Type 1} → statement M
-put-parts-spec =
+pub put_parts_spec : {M : Type 1} → statement M
+put_parts_spec =
     tie.close
     (tie.spec
     (λ c. search rules)

@@ -32,8 +32,8 @@ put-padded-requires c κs =
 returns : tie.Need-returns
 returns c = c.before.before.put-padded.ensures ∙ ap (λ (ps : List ℕ). padded (record_of ps)) (taken c.before.before.before.before.before)
 
-pub put-pattern-spec : {M : Type 1} → statement M
-put-pattern-spec =
+pub put_pattern_spec : {M : Type 1} → statement M
+put_pattern_spec =
     tie.close
     (tie.spec
     (λ c κs. search rules)

@@ -20,8 +20,8 @@ returns-4 : tie.Need-returns-4
 unfolding verdict_bytes
 returns-4 c = rw c.before.before.before.before.enum-told2.given.1 c.before.before.put-parts4.ensures
 
-pub put-verdict-spec : {M : Type 1} → statement M
-put-verdict-spec =
+pub put_verdict_spec : {M : Type 1} → statement M
+put_verdict_spec =
     tie.close
     (tie.spec
     (λ c. search rules)

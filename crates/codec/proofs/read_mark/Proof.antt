@@ -31,8 +31,8 @@ returns-5 : tie.Need-returns-5
 unfolding point_of_bytes
 returns-5 c = ap after c.read-pattern.ensures ∙ search (rules, tests)
 
-pub read-mark-spec : {M : Type 1} → statement M
-read-mark-spec =
+pub read_mark_spec : {M : Type 1} → statement M
+read_mark_spec =
     tie.close
     (tie.spec
     (λ c κs. search rules)

@@ -38,8 +38,8 @@ returns c =
     ∙ ap (take n) (read g)
     ∙ positions-take n most_positions (drop 1 (entry g).args.bytes.now) (entry g).requires.1
 
-pub read-pattern-spec : {M : Type 1} → statement M
-read-pattern-spec =
+pub read_pattern_spec : {M : Type 1} → statement M
+read_pattern_spec =
     tie.close
     (tie.spec
     (λ c. search rules)

@@ -85,8 +85,8 @@ returns-2 c =
     let e : c.before.loop.i ≡ 0 = omega arith in
     through (rw e at c.before.loop.invariant)
 
-pub add-low-spec : {M : Type 1} → statement M
-add-low-spec =
+pub add_low_spec : {M : Type 1} → statement M
+add_low_spec =
     tie.close
     (tie.spec
     invariant-loop

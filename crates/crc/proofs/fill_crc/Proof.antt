@@ -16,8 +16,8 @@ returns c =
     let a = left.before.before.before.args in
     sealed_by a.crc a.packet.now add.add_low.ensures (omega (arith, left.remainder_of.ensures, xor_zero_r left.remainder_of.result))
 
-pub fill-crc-spec : {M : Type 1} → statement M
-fill-crc-spec =
+pub fill_crc_spec : {M : Type 1} → statement M
+fill_crc_spec =
     tie.close
     (tie.spec
     (λ c κs. search rules)

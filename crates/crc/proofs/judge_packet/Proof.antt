@@ -59,8 +59,8 @@ returns-3 c = stops (left2 c.before.before) (tested3 c.before) c.if3.true
 returns-4 : tie.Need-returns-4
 returns-4 c = goes_on (but (left2 c.before.before) (tested3 c.before) c.if3.false)
 
-pub judge-packet-spec : {M : Type 1} → statement M
-judge-packet-spec =
+pub judge_packet_spec : {M : Type 1} → statement M
+judge_packet_spec =
     tie.close
     (tie.spec
     (λ c κs. search rules)

@@ -38,8 +38,8 @@ returns-2 c =
     (let_through (packet_conditions k (8 * length a.packet.now)) j.judge-packet.ensures c.before.before.enum_told.given.1 refused
     (accepted (remainder k a.packet.now)))
 
-pub remainder-spec : {M : Type 1} → statement M
-remainder-spec =
+pub remainder_spec : {M : Type 1} → statement M
+remainder_spec =
     tie.close
     (tie.spec
     (λ c κs. search rules)

@@ -52,8 +52,8 @@ returns-2 c =
           ∙ sym (let_through (conditions s) j.judge-packet.ensures h (λ _. q) (sealed (crc_of a.generator a.init a.xorout) q)),
     )
 
-pub seal-spec : {M : Type 1} → statement M
-seal-spec =
+pub seal_spec : {M : Type 1} → statement M
+seal_spec =
     tie.close
     (tie.spec
     (λ c κs. search rules)

@@ -22,5 +22,5 @@ returns c =
     (λ (xs : List (List ℕ)). xs) f.search-first.result f.search-first.new.1.1.1.1.1.0
     (f.search-first.ensures (power g.degree g.coefficients) s.requires.lookup)
 
-pub meet-first-spec : {M : Type 1} → statement M
-meet-first-spec = tie.close (tie.spec search-first-requires (λ c. search rules) returns)
+pub meet_first_spec : {M : Type 1} → statement M
+meet_first_spec = tie.close (tie.spec search-first-requires (λ c. search rules) returns)

@@ -25,5 +25,5 @@ returns c =
     (λ (xs : List (List ℕ)). sift (by_positions q) xs) f.search-next.result f.search-next.new.1.1.1.1.1.0
     (f.search-next.ensures (power g.degree g.coefficients) s.requires.0.lookup)
 
-pub meet-next-spec : {M : Type 1} → statement M
-meet-next-spec = tie.close (tie.spec search-next-requires (λ c. search rules) returns)
+pub meet_next_spec : {M : Type 1} → statement M
+meet_next_spec = tie.close (tie.spec search-next-requires (λ c. search rules) returns)

@@ -71,8 +71,8 @@ returns c =
     values_by_entries (power s.args.g.degree s.args.g.coefficients) (length s.args.pow.now) l.pow l.invariant.long
     (λ k h. l.invariant.right k (omega arith))
 
-pub powers-spec : {M : Type 1} → statement M
-powers-spec =
+pub powers_spec : {M : Type 1} → statement M
+powers_spec =
     tie.close
     (tie.spec
     invariant-loop

@@ -42,8 +42,8 @@ returns c =
       turns = c.period-of.ensures;
     }
 
-pub prepare-spec : {M : Type 1} → statement M
-prepare-spec =
+pub prepare_spec : {M : Type 1} → statement M
+prepare_spec =
     tie.close
     (tie.spec
     (λ c. search rules)

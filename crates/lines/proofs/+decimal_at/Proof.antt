@@ -95,8 +95,8 @@ decimal-at-returns-2 t c =
           ∙ store_step a.v a.out.now a.to d.decimal-at.result h d.decimal-at.ensures.place;
     }
 
-pub +decimal-at-spec : {M : Type 1} → statement M
-+decimal-at-spec = close μ-decimal-at λ t. decimal-at-lts.spec (
+pub +decimal_at_spec : {M : Type 1} → statement M
++decimal_at_spec = close μ-decimal-at λ t. decimal-at-lts.spec (
   decimal-at-below t,
   decimal-at.Post,
 )

@@ -12,5 +12,5 @@ returns c =
     let h = c.before.before.word_at.ensures in
     (h, stored_front h (omega (arith, h.place)))
 
-pub bad-line-spec : {M : Type 1} → statement M
-bad-line-spec = tie.close (tie.spec (λ c. search rules) (λ c κs. search rules) (λ c. search rules) returns)
+pub bad_line_spec : {M : Type 1} → statement M
+bad_line_spec = tie.close (tie.spec (λ c. search rules) (λ c κs. search rules) (λ c. search rules) returns)

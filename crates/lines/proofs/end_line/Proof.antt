@@ -26,7 +26,7 @@ returns c =
     n.number-line-at.ensures.0 in
     (h, stored_front h (omega (arith, w.place, n.number-line-at.ensures.1)))
 
-pub end-line-spec : {M : Type 1} → statement M
-end-line-spec =
+pub end_line_spec : {M : Type 1} → statement M
+end_line_spec =
     tie.close
     (tie.spec (λ c. search rules) (λ c κs. search rules) number-line-at-requires (λ c. search rules) returns)

@@ -84,8 +84,8 @@ returns c =
       omega (arith, three s.args.count s.requires.0, d.decimal-at.ensures.place, p.positions-at.ensures.1),
     )
 
-pub line-at-spec : {M : Type 1} → statement M
-line-at-spec =
+pub line_at_spec : {M : Type 1} → statement M
+line_at_spec =
     tie.close
     (tie.spec
     decimal-at-requires

@@ -43,6 +43,6 @@ returns c =
       omega (arith, twenty s.args.v s.ranges.v.fits, d.decimal-at.ensures.place),
     )
 
-pub number-line-at-spec : {M : Type 1} → statement M
-number-line-at-spec =
+pub number_line_at_spec : {M : Type 1} → statement M
+number_line_at_spec =
     tie.close (tie.spec decimal-at-requires slice-write-out add-result (λ c. search rules) returns)

@@ -73,8 +73,8 @@ returns-2 c =
     let h = writing_stored (rw (text_past a.page.now p.loop.at c.loop-test.false) at p.loop.invariant.2) in
     (h, stored_front h (omega arith))
 
-pub page-text-spec : {M : Type 1} → statement M
-page-text-spec =
+pub page_text_spec : {M : Type 1} → statement M
+page_text_spec =
     tie.close
     (tie.spec
     invariant-loop

@@ -73,8 +73,8 @@ returns c =
     let z : c.before.loop.left ≡ 0 = omega arith in
     (writing_stored (rw (z, spaced_none) at c.before.loop.invariant.2), omega arith)
 
-pub positions-at-spec : {M : Type 1} → statement M
-positions-at-spec =
+pub positions_at_spec : {M : Type 1} → statement M
+positions_at_spec =
     tie.close
     (tie.spec
     invariant-loop

@@ -27,8 +27,8 @@ returns c =
     n.number-line-at.ensures.0 in
     (rw (sym k.ensures) h, stored_front h (omega (arith, w.place, n.number-line-at.ensures.1)))
 
-pub refused-line-spec : {M : Type 1} → statement M
-refused-line-spec =
+pub refused_line_spec : {M : Type 1} → statement M
+refused_line_spec =
     tie.close
     (tie.spec
     (λ c. search rules)

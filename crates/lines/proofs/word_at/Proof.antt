@@ -45,8 +45,8 @@ returns c =
     let over : length p.before.args.word.now ≤ p.loop.i = search rules in
     writing_stored (rw (drop_of_length-le p.before.args.word.now over) at p.loop.invariant.1)
 
-pub word-at-spec : {M : Type 1} → statement M
-word-at-spec =
+pub word_at_spec : {M : Type 1} → statement M
+word_at_spec =
     tie.close
     (tie.spec
     invariant-loop

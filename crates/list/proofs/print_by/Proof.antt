@@ -11,8 +11,8 @@ print-due-requires c κs =
     let b = r.before.before.before.before.before in
     (b.before.before.before.before.before.requires.0, b.build.ensures, (omega (arith, r.page-room.ensures), omega (arith, r.page-room.ensures, l.large-buffer.ensures), omega (arith, l.large-buffer.ensures)))
 
-pub print-by-spec : {M : Type 1} → statement M
-print-by-spec =
+pub print_by_spec : {M : Type 1} → statement M
+print_by_spec =
     tie.close
     (tie.spec
     (λ c κs. search rules)

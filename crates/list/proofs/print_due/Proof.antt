@@ -57,8 +57,8 @@ loop-again c =
     let h = turned k.before.before.before.before.before.before.before k.before.turn2.given.1 in
     (h.3, h.4, search rules, search rules)
 
-pub print-due-spec : {M : Type 1} → statement M
-print-due-spec =
+pub print_due_spec : {M : Type 1} → statement M
+print_due_spec =
     tie.close
     (tie.spec
     invariant-loop

@@ -16,8 +16,8 @@ print-by-requires c κs =
     let z = c.before.before.before.before in
     (z.requires.0, length-take-le _ _ z.requires.2 ∙ z.requires.1, length-take-le _ _ z.requires.3 ∙ z.requires.1)
 
-pub print-in-spec : {M : Type 1} → statement M
-print-in-spec =
+pub print_in_spec : {M : Type 1} → statement M
+print_in_spec =
     tie.close
     (tie.spec
     (λ c. search rules)

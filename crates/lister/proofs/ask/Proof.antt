@@ -29,5 +29,5 @@ returns-2 c =
       record { clear = sym j.judge-list.ensures ∙ ap judgement c.enum_told.given.1; fits = refl; counted = rw (all, none) },
     )
 
-pub ask-spec : {M : Type 1} → statement M
-ask-spec = tie.close (tie.spec (λ c κs. search rules) (λ c. search rules) (λ c. search rules) returns returns-2)
+pub ask_spec : {M : Type 1} → statement M
+ask_spec = tie.close (tie.spec (λ c κs. search rules) (λ c. search rules) (λ c. search rules) returns returns-2)

@@ -17,5 +17,5 @@ returns c =
     let judged = c.judge-input.ensures in
     (λ input read. judged.0 ∙ ap printed read ∙ printed-first (length s.args.buffer.now) input s.requires.0, judged.1)
 
-pub begin-spec : {M : Type 1} → statement M
-begin-spec = tie.close (tie.spec slice-aggregate-judge-input (λ c κs. search rules) returns)
+pub begin_spec : {M : Type 1} → statement M
+begin_spec = tie.close (tie.spec slice-aggregate-judge-input (λ c κs. search rules) returns)

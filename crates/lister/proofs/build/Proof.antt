@@ -22,8 +22,8 @@ returns-3 c =
     let built = tables_built (sound_listing e z.requires.0) z.args.steps.now z.args.firsts.now full-steps full-firsts in
     rw e (t.tables.ensures.1.0 ∙ built.0, t.tables.ensures.1.1 ∙ built.1)
 
-pub build-spec : {M : Type 1} → statement M
-build-spec =
+pub build_spec : {M : Type 1} → statement M
+build_spec =
     tie.close
     (tie.spec
     (λ c. search rules)

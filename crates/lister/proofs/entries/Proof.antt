@@ -12,7 +12,7 @@ table-size-requires c κs =
 returns-3 : tie.Need-returns-3
 returns-3 c = rw c.before.before.due.given.1 c.table-size.ensures
 
-pub entries-spec : {M : Type 1} → statement M
-entries-spec =
+pub entries_spec : {M : Type 1} → statement M
+entries_spec =
     tie.close
     (tie.spec (λ c. search rules) (λ c. search rules) (λ c. search rules) table-size-requires (λ c. search rules) (λ c. search rules) returns-3)

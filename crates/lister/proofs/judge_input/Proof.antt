@@ -19,8 +19,8 @@ returns c =
 returns-2 : tie.Need-returns-2
 returns-2 c = (rw (← c.before.before.parse.ensures.0, c.if1.false), tt)
 
-pub judge-input-spec : {M : Type 1} → statement M
-judge-input-spec =
+pub judge_input_spec : {M : Type 1} → statement M
+judge_input_spec =
     tie.close
     (tie.spec
     (λ c. search rules)

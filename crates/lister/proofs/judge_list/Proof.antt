@@ -64,8 +64,8 @@ returns-4 c = stops (left3 c.before.before) (tested4 c.before) c.if4.true
 returns-5 : tie.Need-returns-5
 returns-5 c = goes_on (but (left3 c.before.before) (tested4 c.before) c.if4.false)
 
-pub judge-list-spec : {M : Type 1} → statement M
-judge-list-spec =
+pub judge_list_spec : {M : Type 1} → statement M
+judge_list_spec =
     tie.close
     (tie.spec
     (λ c κs. search rules)

@@ -54,8 +54,8 @@ returns-3 c =
     let p = c.before.before.before.before in
     rw p.before.before.before.before.mark.given.1 p.page-turn2.ensures
 
-pub list-turn-spec : {M : Type 1} → statement M
-list-turn-spec =
+pub list_turn_spec : {M : Type 1} → statement M
+list_turn_spec =
     tie.close
     (tie.spec
     (λ c. search rules)

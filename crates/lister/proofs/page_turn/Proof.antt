@@ -81,8 +81,8 @@ returns-2 c =
       z.pre.2,
     )
 
-pub page-turn-spec : {M : Type 1} → statement M
-page-turn-spec =
+pub page_turn_spec : {M : Type 1} → statement M
+page_turn_spec =
     tie.close
     (tie.spec
     (λ c κs. search rules)

@@ -30,5 +30,5 @@ returns c =
     let ten : 0 < 2 = omega arith in
     (e, omega (arith, e, pow-le-pow_right {n = 2} ten (listed_fit g o.before.requires).1))
 
-pub table-size-spec : {M : Type 1} → statement M
-table-size-spec = tie.close (tie.spec (λ c κs. search rules) (λ c. search rules) shl-result returns)
+pub table_size_spec : {M : Type 1} → statement M
+table_size_spec = tie.close (tie.spec (λ c κs. search rules) (λ c. search rules) shl-result returns)

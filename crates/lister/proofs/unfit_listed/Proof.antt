@@ -19,5 +19,5 @@ returns-2 c =
     rw (← e.before.unfit-generator.ensures, e.if1.false)
     (ap (λ (g : Generator). ltb greatest_listed g.degree) o.of.ensures)
 
-pub unfit-listed-spec : {M : Type 1} → statement M
-unfit-listed-spec = tie.close (tie.spec (λ c κs. search rules) returns (λ c κs. search rules) returns-2)
+pub unfit_listed_spec : {M : Type 1} → statement M
+unfit_listed_spec = tie.close (tie.spec (λ c κs. search rules) returns (λ c κs. search rules) returns-2)

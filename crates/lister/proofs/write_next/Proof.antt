@@ -29,8 +29,8 @@ returns-3 c =
     let l = c.before.before.before.before in
     rw l.before.before.before.before.due2.given.1 l.list-turn.ensures
 
-pub write-next-spec : {M : Type 1} → statement M
-write-next-spec =
+pub write_next_spec : {M : Type 1} → statement M
+write_next_spec =
     tie.close
     (tie.spec
     (λ c. search rules)

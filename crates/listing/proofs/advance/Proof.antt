@@ -23,5 +23,5 @@ returns c =
     next_told g.degree g.coefficients (length s.args.pow.now) (length s.args.pos.now) s.args.cursor.syndrome s.requires.0.fit.divisor q
     f.order-next.result f.order-next.new.1.1.1.1.1.0 f.order-next.ensures.0 (f.order-next.ensures.1 (power g.degree g.coefficients) s.requires.0.lookup)
 
-pub advance-spec : {M : Type 1} → statement M
-advance-spec = tie.close (tie.spec order-next-requires (λ c. search rules) returns)
+pub advance_spec : {M : Type 1} → statement M
+advance_spec = tie.close (tie.spec order-next-requires (λ c. search rules) returns)

@@ -38,8 +38,8 @@ returns-3 c =
     let xs : List (List ℕ) = listed_by s.args.cursor l m in
     told_along before l m xs f.go_on.result f.go_on.new.1.1.1.1.0 (from_after xs f.before.before.before.mark.given.1) f.go_on.ensures
 
-pub begin-spec : {M : Type 1} → statement M
-begin-spec =
+pub begin_spec : {M : Type 1} → statement M
+begin_spec =
     tie.close
     (tie.spec
     (λ c. search rules)

@@ -18,5 +18,5 @@ returns c =
     first_told g.degree g.coefficients (length s.args.pow.now) (length s.args.pos.now) s.args.cursor.syndrome s.requires.fit.divisor
     f.order-first.result f.order-first.new.1.1.1.1.1.0 f.order-first.ensures.0 (f.order-first.ensures.1 (power g.degree g.coefficients) s.requires.lookup)
 
-pub first-listed-spec : {M : Type 1} → statement M
-first-listed-spec = tie.close (tie.spec order-first-requires (λ c. search rules) returns)
+pub first_listed_spec : {M : Type 1} → statement M
+first_listed_spec = tie.close (tie.spec order-first-requires (λ c. search rules) returns)

@@ -30,7 +30,7 @@ returns c =
     (put_take ps s.args.pos.now put.put-positions.new.1.0 k.count_of.result put.put-positions.ensures k.count_of.ensures)
     c.before.before.advance.ensures
 
-pub go-on-spec : {M : Type 1} → statement M
-go-on-spec =
+pub go_on_spec : {M : Type 1} → statement M
+go_on_spec =
     tie.close
     (tie.spec (λ c κs. search rules) (λ c κs. search rules) advance-requires (λ c. search rules) returns)

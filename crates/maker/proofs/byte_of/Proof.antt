@@ -8,5 +8,5 @@ returns : tie.Need-returns
 unfolding byte_of
 returns c = search rules
 
-pub byte-of-spec : {M : Type 1} → statement M
-byte-of-spec = tie.close (tie.spec (λ c. search rules) returns)
+pub byte_of_spec : {M : Type 1} → statement M
+byte_of_spec = tie.close (tie.spec (λ c. search rules) returns)

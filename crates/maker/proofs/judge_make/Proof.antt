@@ -49,8 +49,8 @@ returns-3 c = stops (left4 c.before.before) c.before.unfit-field.ensures c.if2.t
 returns-4 : tie.Need-returns-4
 returns-4 c = goes_on (but (left4 c.before.before) c.before.unfit-field.ensures c.if2.false)
 
-pub judge-make-spec : {M : Type 1} → statement M
-judge-make-spec =
+pub judge_make_spec : {M : Type 1} → statement M
+judge_make_spec =
     tie.close
     (tie.spec
     (λ c κs. search rules)

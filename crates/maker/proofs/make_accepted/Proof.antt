@@ -15,6 +15,6 @@ returns c =
     let a = w.before.before.before.args in
     (w.fill.ensures.0, z.fill-crc.ensures ∙ ap (sealed a.crc) (t.fill-field.ensures ∙ ap (stamped a.check) w.fill.ensures.1))
 
-pub make-accepted-spec : {M : Type 1} → statement M
-make-accepted-spec =
+pub make_accepted_spec : {M : Type 1} → statement M
+make_accepted_spec =
     tie.close (tie.spec (λ c κs. search rules) (λ c κs. search rules) (λ c κs. search rules) (λ c. search rules) returns)

@@ -8,5 +8,5 @@ returns : tie.Need-returns
 unfolding next_state
 returns c = search rules
 
-pub next-state-spec : {M : Type 1} → statement M
-next-state-spec = tie.close (tie.spec (λ c κs. search rules) (λ c κs. search rules) returns)
+pub next_state_spec : {M : Type 1} → statement M
+next_state_spec = tie.close (tie.spec (λ c κs. search rules) (λ c κs. search rules) returns)

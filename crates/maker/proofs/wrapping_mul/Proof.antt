@@ -9,5 +9,5 @@ mul-result c =
     let b : c.args.b ≤ 4294967295 = omega arith in
     omega (arith, mul-le-mul a b)
 
-pub wrapping-mul-spec : {M : Type 1} → statement M
-wrapping-mul-spec = tie.close (tie.spec mul-result (λ c. search rules) (λ c. search rules))
+pub wrapping_mul_spec : {M : Type 1} → statement M
+wrapping_mul_spec = tie.close (tie.spec mul-result (λ c. search rules) (λ c. search rules))

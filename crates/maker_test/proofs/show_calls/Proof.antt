@@ -10,8 +10,8 @@ invariant-loop h₀ k₀ h k = k ≤ 4800
 abbrev decreases-loop : tie.decreases-loop
 decreases-loop h₀ k₀ h k = 4800 - k
 
-pub show-calls-spec : {M : Type 1} → statement M
-show-calls-spec =
+pub show_calls_spec : {M : Type 1} → statement M
+show_calls_spec =
     tie.close
     (tie.spec
     invariant-loop

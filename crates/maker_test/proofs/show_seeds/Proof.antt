@@ -10,8 +10,8 @@ invariant-loop i₀ i = i ≤ 7
 abbrev decreases-loop : tie.decreases-loop
 decreases-loop i₀ i = 7 - i
 
-pub show-seeds-spec : {M : Type 1} → statement M
-show-seeds-spec =
+pub show_seeds_spec : {M : Type 1} → statement M
+show_seeds_spec =
     tie.close
     (tie.spec
     invariant-loop

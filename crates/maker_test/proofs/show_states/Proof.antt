@@ -10,8 +10,8 @@ invariant-loop seed state₀ i₀ t state i = i ≤ 11
 abbrev decreases-loop : tie.decreases-loop
 decreases-loop seed state₀ i₀ t state i = 11 - i
 
-pub show-states-spec : {M : Type 1} → statement M
-show-states-spec =
+pub show_states_spec : {M : Type 1} → statement M
+show_states_spec =
     tie.close
     (tie.spec
     invariant-loop

@@ -11,5 +11,5 @@ returns c power t =
     let s = c.before.before.before.before.before in
     none_summing s.args.generator (length s.args.pos.now) s.args.u (sym c.before.ruled_out.ensures ∙ c.if1.true) t s.requires.1
 
-pub first-or-skip-spec : {M : Type 1} → statement M
-first-or-skip-spec = tie.close (tie.spec (λ c κs. search rules) returns (λ c κs. search rules) (λ c. search rules) (λ c. search rules))
+pub first_or_skip_spec : {M : Type 1} → statement M
+first_or_skip_spec = tie.close (tie.spec (λ c κs. search rules) returns (λ c κs. search rules) (λ c. search rules) (λ c. search rules))

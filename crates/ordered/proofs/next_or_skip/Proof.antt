@@ -11,5 +11,5 @@ returns c power t x m =
     let s = c.before.before.before.before.before in
     none_summing s.args.generator (length s.args.pos.now) s.args.u (sym c.before.ruled_out.ensures ∙ c.if1.true) t s.requires.2 x m.0
 
-pub next-or-skip-spec : {M : Type 1} → statement M
-next-or-skip-spec = tie.close (tie.spec (λ c κs. search rules) returns (λ c κs. search rules) (λ c. search rules) (λ c. search rules))
+pub next_or_skip_spec : {M : Type 1} → statement M
+next_or_skip_spec = tie.close (tie.spec (λ c κs. search rules) returns (λ c κs. search rules) (λ c. search rules) (λ c. search rules))

@@ -52,8 +52,8 @@ returns-2 c =
           found_by (later_miss power l n s.args.syndrome q s.args.count e s.requires.1 none _ (omega arith)) m.result m.new.1.1.1.1.1.1.0 (rw w at (m.ensures.1 power t)),
     )
 
-pub order-next-spec : {M : Type 1} → statement M
-order-next-spec =
+pub order_next_spec : {M : Type 1} → statement M
+order_next_spec =
     tie.close
     (tie.spec
     (λ c. search rules)

@@ -80,8 +80,8 @@ returns-2 c =
           i.invariant.2 power t false i.pos (rise_past power (length s.args.pow.now) (length s.args.pos.now) s.args.u i.k (omega arith)),
     )
 
-pub rise-spec : {M : Type 1} → statement M
-rise-spec =
+pub rise_spec : {M : Type 1} → statement M
+rise_spec =
     tie.close
     (tie.spec
     invariant-loop

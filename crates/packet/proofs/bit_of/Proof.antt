@@ -15,5 +15,5 @@ returns : tie.Need-returns
 unfolding bit_at
 returns c = (refl, omega arith)
 
-pub bit-of-spec : {M : Type 1} → statement M
-bit-of-spec = tie.close (tie.spec (λ c. search rules) (λ c. search rules) (λ c. search rules) cast-b (λ c. search rules) returns)
+pub bit_of_spec : {M : Type 1} → statement M
+bit_of_spec = tie.close (tie.spec (λ c. search rules) (λ c. search rules) (λ c. search rules) cast-b (λ c. search rules) returns)

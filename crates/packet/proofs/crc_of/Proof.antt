@@ -6,5 +6,5 @@ use Rattle.packet.proofs.crc_of.Tie as tie
 returns : tie.Need-returns
 returns c = rw c.of.ensures
 
-pub crc-of-spec : {M : Type 1} → statement M
-crc-of-spec = tie.close (tie.spec (λ c κs. search rules) returns)
+pub crc_of_spec : {M : Type 1} → statement M
+crc_of_spec = tie.close (tie.spec (λ c κs. search rules) returns)

@@ -15,8 +15,8 @@ returns c =
     let e : 1 * 2 ^ (p % 8) % 2 ^ 8 ≡ 2 ^ (p % 8) = shl_exact 1 (p % 8) 8 (omega arith) (omega arith) ∙ one-mul (2 ^ (p % 8)) in
     rw (e, flip_is c.before.args.packet.now p)
 
-pub flip-bit-spec : {M : Type 1} → statement M
-flip-bit-spec =
+pub flip_bit_spec : {M : Type 1} → statement M
+flip_bit_spec =
     tie.close
     (tie.spec
     (λ c. search rules)

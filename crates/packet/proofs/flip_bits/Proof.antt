@@ -54,8 +54,8 @@ returns c =
     let l = c.before.loop in
     sym (ap (flips l.packet) (drop_of_length-le c.before.before.before.before.args.pos.now {i = l.i} (omega arith)) ∙ flips_nil l.packet) ∙ l.invariant.whole
 
-pub flip-bits-spec : {M : Type 1} → statement M
-flip-bits-spec =
+pub flip_bits_spec : {M : Type 1} → statement M
+flip_bits_spec =
     tie.close
     (tie.spec
     invariant-loop

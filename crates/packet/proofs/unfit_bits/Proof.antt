@@ -12,5 +12,5 @@ returns c = sym (short_unfit _ _ (omega arith))
 returns-2 : tie.Need-returns-2
 returns-2 c = sym (longer_unfit _ _ (omega arith))
 
-pub unfit-bits-spec : {M : Type 1} → statement M
-unfit-bits-spec = tie.close (tie.spec (λ c. search rules) returns returns-2)
+pub unfit_bits_spec : {M : Type 1} → statement M
+unfit_bits_spec = tie.close (tie.spec (λ c. search rules) returns returns-2)

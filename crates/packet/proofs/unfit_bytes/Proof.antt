@@ -9,5 +9,5 @@ use Rattle.packet.proofs.unfit_bytes.Tie as tie
 returns : tie.Need-returns
 returns c = sym (long_unfit _ _ (omega arith))
 
-pub unfit-bytes-spec : {M : Type 1} → statement M
-unfit-bytes-spec = tie.close (tie.spec returns (λ c. search rules) (λ c κs. search rules) (λ c. search rules))
+pub unfit_bytes_spec : {M : Type 1} → statement M
+unfit_bytes_spec = tie.close (tie.spec returns (λ c. search rules) (λ c κs. search rules) (λ c. search rules))

@@ -17,5 +17,5 @@ returns-2 c =
     let s = c.before.before.before in
     rw (shift_one s.args.g s.requires) (sym (xorout_unfit _ _ _ (omega (arith, shift_one s.args.g s.requires, c.before.if1.false))))
 
-pub unfit-values-spec : {M : Type 1} → statement M
-unfit-values-spec = tie.close (tie.spec (λ c. search rules) (λ c. search rules) returns (λ c. search rules) (λ c. search rules) returns-2)
+pub unfit_values_spec : {M : Type 1} → statement M
+unfit_values_spec = tie.close (tie.spec (λ c. search rules) (λ c. search rules) returns (λ c. search rules) (λ c. search rules) returns-2)

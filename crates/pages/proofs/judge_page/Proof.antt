@@ -129,8 +129,8 @@ returns-8 c = stops (left7 c.before.before) c.before.unfit-output.ensures c.if8.
 returns-9 : tie.Need-returns-9
 returns-9 c = goes_on (but (left7 c.before.before) c.before.unfit-output.ensures c.if8.false)
 
-pub judge-page-spec : {M : Type 1} → statement M
-judge-page-spec =
+pub judge_page_spec : {M : Type 1} → statement M
+judge_page_spec =
     tie.close
     (tie.spec
     (λ c κs. search rules)

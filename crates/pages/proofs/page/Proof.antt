@@ -78,8 +78,8 @@ returns-2 c =
           ∙ sym (let_through (conditions s) e h (λ _. out) (page_bytes rest out)),
     )
 
-pub page-spec : {M : Type 1} → statement M
-page-spec =
+pub page_spec : {M : Type 1} → statement M
+page_spec =
     tie.close
     (tie.spec
     (λ c κs. search rules)

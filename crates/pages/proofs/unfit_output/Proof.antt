@@ -8,5 +8,5 @@ returns : tie.Need-returns
 unfolding unfit_output
 returns c = refl
 
-pub unfit-output-spec : {M : Type 1} → statement M
-unfit-output-spec = tie.close (tie.spec returns)
+pub unfit_output_spec : {M : Type 1} → statement M
+unfit_output_spec = tie.close (tie.spec returns)

@@ -6,8 +6,8 @@ use Rattle.pages_test.proofs.call_in.Tie as tie
 slice-aggregate-call : tie.Need-slice-aggregate-call
 slice-aggregate-call c = sym (length-take-le _ _ (omega arith))
 
-pub call-in-spec : {M : Type 1} → statement M
-call-in-spec =
+pub call_in_spec : {M : Type 1} → statement M
+call_in_spec =
     tie.close
     (tie.spec
     (λ c κs. search rules)

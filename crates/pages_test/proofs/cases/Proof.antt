@@ -9,8 +9,8 @@ invariant-loop text at count steps firsts space₀ next₀ left₀ space next le
 abbrev decreases-loop : tie.decreases-loop
 decreases-loop text at count steps firsts space₀ next₀ left₀ space next left = left
 
-pub cases-spec : {M : Type 1} → statement M
-cases-spec =
+pub cases_spec : {M : Type 1} → statement M
+cases_spec =
     tie.close
     (tie.spec
     invariant-loop

@@ -9,8 +9,8 @@ invariant-loop set plan steps firsts space₀ run₀ i₀ space run i = length s
 abbrev decreases-loop : tie.decreases-loop
 decreases-loop set plan steps firsts space₀ run₀ i₀ space run i = plan.most - i
 
-pub sequence-spec : {M : Type 1} → statement M
-sequence-spec =
+pub sequence_spec : {M : Type 1} → statement M
+sequence_spec =
     tie.close
     (tie.spec
     invariant-loop

@@ -9,8 +9,8 @@ invariant-loop set syndromes mark plan steps firsts space₀ run₀ k₀ space r
 abbrev decreases-loop : tie.decreases-loop
 decreases-loop set syndromes mark plan steps firsts space₀ run₀ k₀ space run k = syndromes - k
 
-pub sequences-spec : {M : Type 1} → statement M
-sequences-spec =
+pub sequences_spec : {M : Type 1} → statement M
+sequences_spec =
     tie.close
     (tie.spec
     invariant-loop

@@ -6,8 +6,8 @@ use Rattle.pages_test.proofs.written.Tie as tie
 slice-aggregate-mix : tie.Need-slice-aggregate-mix
 slice-aggregate-mix c = sym (length-take-le _ _ (omega arith))
 
-pub written-spec : {M : Type 1} → statement M
-written-spec =
+pub written_spec : {M : Type 1} → statement M
+written_spec =
     tie.close
     (tie.spec
     (λ c κs. search rules)

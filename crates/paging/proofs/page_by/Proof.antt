@@ -45,5 +45,5 @@ returns c =
       f.fill.ensures.1 ∙ ap (λ (t : List (List ℕ)). page_bytes t s.args.output.now) e,
     )
 
-pub page-by-spec : {M : Type 1} → statement M
-page-by-spec = tie.close (tie.spec (λ c κs. search rules) fill-requires (λ c. search rules) (λ c. search rules) returns)
+pub page_by_spec : {M : Type 1} → statement M
+page_by_spec = tie.close (tie.spec (λ c κs. search rules) fill-requires (λ c. search rules) (λ c. search rules) returns)

@@ -51,8 +51,8 @@ returns c =
       f.page-by.ensures.1 ∙ ap (λ (t : List (List ℕ)). page_bytes t a.output.now) e,
     )
 
-pub page-in-spec : {M : Type 1} → statement M
-page-in-spec =
+pub page_in_spec : {M : Type 1} → statement M
+page_in_spec =
     tie.close
     (tie.spec
     (λ c κs. search rules)

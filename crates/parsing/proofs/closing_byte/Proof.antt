@@ -14,5 +14,5 @@ closing-more (suc more) h = refl
 returns-2 : tie.Need-returns-2
 returns-2 c = closing-more c.before.args.more (omega arith)
 
-pub closing-byte-spec : {M : Type 1} → statement M
-closing-byte-spec = tie.close (tie.spec (λ c. search rules) returns-2)
+pub closing_byte_spec : {M : Type 1} → statement M
+closing_byte_spec = tie.close (tie.spec (λ c. search rules) returns-2)

@@ -92,8 +92,8 @@ returns-8 c =
     let a = p.before.before.before.before.before.args in
     sym (read_from_past a.close a.input.now p.loop.at p.loop.room p.loop.value c.loop-test.false) ∙ p.loop.invariant.2
 
-pub number-at-spec : {M : Type 1} → statement M
-number-at-spec =
+pub number_at_spec : {M : Type 1} → statement M
+number_at_spec =
     tie.close
     (tie.spec
     invariant-loop

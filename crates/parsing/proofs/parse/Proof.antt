@@ -96,8 +96,8 @@ returns-2 c =
     let a = p.before.before.before.args in
     ends a.input.now a.out.now p.loop.out p.loop.at p.loop.i p.loop.invariant (omega arith)
 
-pub parse-spec : {M : Type 1} → statement M
-parse-spec =
+pub parse_spec : {M : Type 1} → statement M
+parse_spec =
     tie.close
     (tie.spec
     invariant-loop

@@ -36,8 +36,8 @@ loop-again c = ascending-step c.before.before.before.before.before.args.l c.befo
 returns-3 : tie.Need-returns-3 invariant-loop decreases-loop
 returns-3 c = sym (ascending_end c.before.before.args.l c.before.loop.from c.before.before.args.pos.now c.before.loop.i (omega arith)) ∙ c.before.loop.invariant
 
-pub ascends-spec : {M : Type 1} → statement M
-ascends-spec =
+pub ascends_spec : {M : Type 1} → statement M
+ascends_spec =
     tie.close
     (tie.spec
     invariant-loop

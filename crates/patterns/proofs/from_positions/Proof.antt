@@ -21,8 +21,8 @@ returns-4 c = spell_all 3 most_positions c.before.before.before.before.before.be
 returns-5 : tie.Need-returns-5
 returns-5 c = spell_first most_positions c.before.before.before.before.before.before.before.before.args.pos.now (omega arith)
 
-pub from-positions-spec : {M : Type 1} → statement M
-from-positions-spec =
+pub from_positions_spec : {M : Type 1} → statement M
+from_positions_spec =
     tie.close
     (tie.spec
     returns

@@ -23,8 +23,8 @@ returns-5 c =
     let a = c.before.before.before.before.before.before.before.before.before.args in
     c.is-lower.ensures ∙ sym (as_wide_before a.p.now a.q.now (omega arith) (omega arith))
 
-pub in-order-spec : {M : Type 1} → statement M
-in-order-spec =
+pub in_order_spec : {M : Type 1} → statement M
+in_order_spec =
     tie.close
     (tie.spec
     returns

@@ -23,8 +23,8 @@ returns c =
     let n = c.before.before in
     c.in_order.ensures ∙ ap (before n.before.before.before.args.pos.now) (spread_held n.before.before.before.args.p n.before.spread.ensures n.count_of.ensures)
 
-pub is-before-spec : {M : Type 1} → statement M
-is-before-spec =
+pub is_before_spec : {M : Type 1} → statement M
+is_before_spec =
     tie.close
     (tie.spec
     (λ c κs. search rules)

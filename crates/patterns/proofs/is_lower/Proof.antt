@@ -44,8 +44,8 @@ returns-3 c =
     let s = c.before.before in
     sym (lower_end s.args.p.now s.args.q.now c.before.loop.i (omega arith) (omega (arith, s.requires))) ∙ c.before.loop.invariant
 
-pub is-lower-spec : {M : Type 1} → statement M
-is-lower-spec =
+pub is_lower_spec : {M : Type 1} → statement M
+is_lower_spec =
     tie.close
     (tie.spec
     invariant-loop

@@ -57,8 +57,8 @@ returns c =
     let last : c.before.loop.i ≡ length (positions p) = omega arith in
     c.before.loop.invariant.2 ∙ rw (last, t)
 
-pub put-positions-spec : {M : Type 1} → statement M
-put-positions-spec =
+pub put_positions_spec : {M : Type 1} → statement M
+put_positions_spec =
     tie.close
     (tie.spec
     invariant-loop

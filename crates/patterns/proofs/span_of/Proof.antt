@@ -15,8 +15,8 @@ returns-2 c = omega (arith, span_ends c.before.before.before.before.args.pos.now
 returns-3 : tie.Need-returns-3
 returns-3 c = omega (arith, span_ends c.before.before.before.before.args.pos.now)
 
-pub span-of-spec : {M : Type 1} → statement M
-span-of-spec =
+pub span_of_spec : {M : Type 1} → statement M
+span_of_spec =
     tie.close
     (tie.spec
     returns

@@ -18,8 +18,8 @@ returns-4 c = rw c.before.p3.given.1
 returns-5 : tie.Need-returns-5
 returns-5 c = rw c.before.p4.given.1
 
-pub spread-spec : {M : Type 1} → statement M
-spread-spec =
+pub spread_spec : {M : Type 1} → statement M
+spread_spec =
     tie.close
     (tie.spec
     (λ c. search rules)

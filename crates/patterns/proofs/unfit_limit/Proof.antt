@@ -12,5 +12,5 @@ returns-2 : tie.Need-returns-2
 unfolding unfit_limit
 returns-2 c = simp (ne_eqb _ _ c.if1.false)
 
-pub unfit-limit-spec : {M : Type 1} → statement M
-unfit-limit-spec = tie.close (tie.spec returns returns-2)
+pub unfit_limit_spec : {M : Type 1} → statement M
+unfit_limit_spec = tie.close (tie.spec returns returns-2)

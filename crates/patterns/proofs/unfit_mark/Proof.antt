@@ -7,8 +7,8 @@ use Rattle.patterns.proofs.unfit_mark.Tie as tie
 returns-3 : tie.Need-returns-3
 returns-3 c = c.unfit-pattern.ensures ∙ rw c.before.before.m.given.1
 
-pub unfit-mark-spec : {M : Type 1} → statement M
-unfit-mark-spec =
+pub unfit_mark_spec : {M : Type 1} → statement M
+unfit_mark_spec =
     tie.close
     (tie.spec
     (λ c. search rules)

@@ -39,8 +39,8 @@ returns-2 c =
     let t = spread_held start.p c.before.before.before.before.spread.ensures e in
     rw (a, t) (sym (few_unfit start.l start.limit (positions start.p) (omega arith)))
 
-pub unfit-pattern-spec : {M : Type 1} → statement M
-unfit-pattern-spec =
+pub unfit_pattern_spec : {M : Type 1} → statement M
+unfit_pattern_spec =
     tie.close
     (tie.spec
     (λ c κs. search rules)

@@ -9,5 +9,5 @@ returns : tie.Need-returns
 unfolding unfit_syndrome
 returns c = simp (shift_one c.before.args.g c.before.requires)
 
-pub unfit-syndrome-spec : {M : Type 1} → statement M
-unfit-syndrome-spec = tie.close (tie.spec (λ c. search rules) (λ c. search rules) returns)
+pub unfit_syndrome_spec : {M : Type 1} → statement M
+unfit_syndrome_spec = tie.close (tie.spec (λ c. search rules) (λ c. search rules) returns)

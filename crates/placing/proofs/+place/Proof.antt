@@ -86,8 +86,8 @@ place-returns-3 t c power l =
     ∙ ap (λ (k : ℕ). first_from power (length s.args.pow.now) k c.before.loop.a s.args.u) e
     ∙ first_from_past power (length s.args.pow.now) (n - 1) c.before.loop.a s.args.u c.loop-test.false)
 
-pub +place-spec : {M : Type 1} → statement M
-+place-spec = close μ-place λ t. place-lts.spec (
+pub +place_spec : {M : Type 1} → statement M
++place_spec = close μ-place λ t. place-lts.spec (
   few-reads.Asked,
   few-reads.Learnt,
   place_below t,

@@ -91,8 +91,8 @@ resume-returns-4 t c power l =
     c.before.before.place.ensures power l
     ∙ resume_miss l s.args.u s.args.pos.now r.new.1.1.1.1.0 r.result s.requires.1.1 (omega arith) r.auto.1.1.1.1.0 (r.ensures power l) c.before.before.before.before.if3.false
 
-pub +resume-spec : {M : Type 1} → statement M
-+resume-spec = close μ-resume λ t. resume-lts.spec (resume-pair-reads.Asked, resume-pair-reads.Learnt, resume-below t, resume.Post, place-reads.Asked, place-reads.Learnt)
+pub +resume_spec : {M : Type 1} → statement M
++resume_spec = close μ-resume λ t. resume-lts.spec (resume-pair-reads.Asked, resume-pair-reads.Learnt, resume-below t, resume.Post, place-reads.Asked, place-reads.Learnt)
     (resume-at t)
     resume.Post
     (resume-returns t)

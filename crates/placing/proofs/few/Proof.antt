@@ -32,8 +32,8 @@ returns-4 c power t =
     let s = c.before.before.before.before.before.before in
     sym (first_from_empty power (length s.args.pow.now) s.args.lo s.args.u s.args.pos.now (omega arith) ∙ rw (ne_eqb 0 s.args.u (omega arith)))
 
-pub few-spec : {M : Type 1} → statement M
-few-spec =
+pub few_spec : {M : Type 1} → statement M
+few_spec =
     tie.close
     (tie.spec
     (λ c κs. search rules)

@@ -62,8 +62,8 @@ returns-4 c power t =
     near_period t.firsts s.args.u (inside s) s.args.end s.args.lo (short s) c.if3.false s.requires.1 s.requires.0.index.positive
     (omega (arith, reaches c))
 
-pub nearest-below-spec : {M : Type 1} → statement M
-nearest-below-spec =
+pub nearest_below_spec : {M : Type 1} → statement M
+nearest_below_spec =
     tie.close
     (tie.spec
     (λ c. search rules)

@@ -58,8 +58,8 @@ returns-2 c power t =
     c.before.before.pair.ensures power t
     ∙ sym (pair_after t s.args.u b s.args.pos.now s.requires.1 s.requires.2 (omega arith) (c.before.before.before.before.before.nearest.ensures power t) ∙ rw (le-ltb b (length s.args.pow.now) c.before.before.before.before.if1.false))
 
-pub resume-pair-spec : {M : Type 1} → statement M
-resume-pair-spec =
+pub resume_pair_spec : {M : Type 1} → statement M
+resume_pair_spec =
     tie.close
     (tie.spec
     (λ c. search rules)

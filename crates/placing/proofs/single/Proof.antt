@@ -25,6 +25,6 @@ returns-2 c power t =
     let p = c.before.nearest.result in
     sym (nearest_first power l s.args.u p (l - s.args.lo) s.args.lo (omega arith) (c.before.nearest.ensures power t) ∙ rw (le-ltb p l c.if1.false))
 
-pub single-spec : {M : Type 1} → statement M
-single-spec =
+pub single_spec : {M : Type 1} → statement M
+single_spec =
     tie.close (tie.spec (λ c κs. search rules) (λ c. search rules) (λ c. search rules) (λ c. search rules) returns returns-2)

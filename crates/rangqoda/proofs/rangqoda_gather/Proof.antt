@@ -14,5 +14,5 @@ returns c =
     let left : called.gather.new.1.1.1.0 ≡ gather_output a.rows a.columns a.input.now a.output.now = done.1 in
     (c.block-code.ensures ∙ ap code done.0, left)
 
-pub rangqoda-gather-spec : {M : Type 1} → statement M
-rangqoda-gather-spec = tie.close (tie.spec (λ c κs. search rules) (λ c κs. search rules) (λ c. search rules) returns)
+pub rangqoda_gather_spec : {M : Type 1} → statement M
+rangqoda_gather_spec = tie.close (tie.spec (λ c κs. search rules) (λ c κs. search rules) (λ c. search rules) returns)

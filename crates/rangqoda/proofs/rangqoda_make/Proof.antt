@@ -29,8 +29,8 @@ returns-2 c =
     let e = rw m.answer2.given.1 at done.0 in
     (code_accepted e, (done.1, changed_accepted _ _ e))
 
-pub rangqoda-make-spec : {M : Type 1} → statement M
-rangqoda-make-spec =
+pub rangqoda_make_spec : {M : Type 1} → statement M
+rangqoda_make_spec =
     tie.close
     (tie.spec
     (λ c κs. search rules)

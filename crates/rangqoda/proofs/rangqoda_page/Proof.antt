@@ -46,8 +46,8 @@ returns-2 c =
     let bytes = g.page.ensures.1 ∙ ap (page_left (request g)) g.before.before.read-mark.ensures in
     (code_accepted e, (w.put-mark.ensures ∙ changed_accepted _ _ e, (bytes, (changed_accepted _ _ e, changed_accepted _ _ e))))
 
-pub rangqoda-page-spec : {M : Type 1} → statement M
-rangqoda-page-spec =
+pub rangqoda_page_spec : {M : Type 1} → statement M
+rangqoda_page_spec =
     tie.close
     (tie.spec
     (λ c κs. search rules)

@@ -16,8 +16,8 @@ returns-2 c =
     let e = rw m.answer2.given.1 at m.before.before.remainder.ensures in
     (code_accepted e, changed_accepted _ _ e)
 
-pub rangqoda-remainder-spec : {M : Type 1} → statement M
-rangqoda-remainder-spec =
+pub rangqoda_remainder_spec : {M : Type 1} → statement M
+rangqoda_remainder_spec =
     tie.close
     (tie.spec
     (λ c κs. search rules)

@@ -79,8 +79,8 @@ returns-2 c =
     let bytes = ap (λ (l : List ℕ). l ++ drop g.before.before.before.room_for.result a.output.now) g.repair.ensures.1 ∙ left g in
     (code_accepted e, (w.put-verdict.ensures ∙ changed_accepted _ _ e, bytes))
 
-pub rangqoda-repair-spec : {M : Type 1} → statement M
-rangqoda-repair-spec =
+pub rangqoda_repair_spec : {M : Type 1} → statement M
+rangqoda_repair_spec =
     tie.close
     (tie.spec
     (λ c κs. search rules)

@@ -14,5 +14,5 @@ returns c =
     let left : called.scatter.new.1.1.1.0 ≡ scatter_output a.rows a.columns a.input.now a.output.now = done.1 in
     (c.block-code.ensures ∙ ap code done.0, left)
 
-pub rangqoda-scatter-spec : {M : Type 1} → statement M
-rangqoda-scatter-spec = tie.close (tie.spec (λ c κs. search rules) (λ c κs. search rules) (λ c. search rules) returns)
+pub rangqoda_scatter_spec : {M : Type 1} → statement M
+rangqoda_scatter_spec = tie.close (tie.spec (λ c κs. search rules) (λ c κs. search rules) (λ c. search rules) returns)

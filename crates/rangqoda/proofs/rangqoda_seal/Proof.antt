@@ -15,8 +15,8 @@ returns-2 c =
     let done = c.before.before.before.before.seal.ensures in
     (code_accepted (rw c.enum_told.given.1 at done.0), done.1)
 
-pub rangqoda-seal-spec : {M : Type 1} → statement M
-rangqoda-seal-spec =
+pub rangqoda_seal_spec : {M : Type 1} → statement M
+rangqoda_seal_spec =
     tie.close
     (tie.spec
     (λ c κs. search rules)

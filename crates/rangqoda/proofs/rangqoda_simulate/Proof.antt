@@ -36,8 +36,8 @@ returns-2 c =
     let e = rw m.answer2.given.1 at done.0 in
     (code_accepted e, (done.1.0, (done.1.1.0, (done.1.1.1, changed_accepted _ _ e))))
 
-pub rangqoda-simulate-spec : {M : Type 1} → statement M
-rangqoda-simulate-spec =
+pub rangqoda_simulate_spec : {M : Type 1} → statement M
+rangqoda_simulate_spec =
     tie.close
     (tie.spec
     (λ c κs. search rules)

@@ -31,8 +31,8 @@ returns-2 c =
     let done = stamped c.before.before.before.before in
     (code_accepted (rw c.enum_told.given.1 at done.0), done.1)
 
-pub rangqoda-stamp-spec : {M : Type 1} → statement M
-rangqoda-stamp-spec =
+pub rangqoda_stamp_spec : {M : Type 1} → statement M
+rangqoda_stamp_spec =
     tie.close
     (tie.spec
     (λ c κs. search rules)

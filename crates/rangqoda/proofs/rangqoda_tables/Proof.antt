@@ -18,8 +18,8 @@ returns-2 c =
     let e = rw m.answer2.given.1 at done.0 in
     (code_accepted e, (done.1.0, (done.1.1, changed_accepted _ _ e)))
 
-pub rangqoda-tables-spec : {M : Type 1} → statement M
-rangqoda-tables-spec =
+pub rangqoda_tables_spec : {M : Type 1} → statement M
+rangqoda_tables_spec =
     tie.close
     (tie.spec
     (λ c κs. search rules)

@@ -10,5 +10,5 @@ returns c = search (rules, tests)
 returns-2 : tie.Need-returns-2
 returns-2 c = search (rules, tests)
 
-pub room-for-spec : {M : Type 1} → statement M
-room-for-spec = tie.close (tie.spec returns returns-2)
+pub room_for_spec : {M : Type 1} → statement M
+room_for_spec = tie.close (tie.spec returns returns-2)

@@ -56,8 +56,8 @@ returns c =
     let a = c.before.before.args in
     positions_by_entries (length a.pos.now) a.bytes.now l.pos l.invariant.long (λ k h. l.invariant.right k (omega (arith, l.invariant.long)))
 
-pub get-positions-spec : {M : Type 1} → statement M
-get-positions-spec =
+pub get_positions_spec : {M : Type 1} → statement M
+get_positions_spec =
     tie.close
     (tie.spec
     invariant-loop

@@ -62,8 +62,8 @@ returns c =
       behind = omega (arith, record_length ps);
     }
 
-pub put-record-spec : {M : Type 1} → statement M
-put-record-spec =
+pub put_record_spec : {M : Type 1} → statement M
+put_record_spec =
     tie.close
     (tie.spec
     invariant-loop

@@ -38,8 +38,8 @@ returns c =
     let e : n + c.before.loop.j ≡ n = omega arith in
     sym (rem_small n c.before.before.args.g.coefficients c.before.loop.v (rw e at c.before.loop.invariant.1)) ∙ c.before.loop.invariant.2
 
-pub append-spec : {M : Type 1} → statement M
-append-spec =
+pub append_spec : {M : Type 1} → statement M
+append_spec =
     tie.close
     (tie.spec
     invariant-loop

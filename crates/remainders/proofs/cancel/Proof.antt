@@ -17,5 +17,5 @@ returns-2 c =
     (cancel_high a.g.degree a.g.coefficients c.before.requires.0.divisor a.v a.j c.before.requires.1.1
     (high_part a.v (a.g.degree + a.j) (λ h. omega (arith, h, c.if1.false))))
 
-pub cancel-spec : {M : Type 1} → statement M
-cancel-spec = tie.close (tie.spec (λ c. search rules) (λ c. search rules) (λ c. search rules) (λ c. search rules) returns returns-2)
+pub cancel_spec : {M : Type 1} → statement M
+cancel_spec = tie.close (tie.spec (λ c. search rules) (λ c. search rules) (λ c. search rules) (λ c. search rules) returns returns-2)

@@ -40,8 +40,8 @@ returns c =
     let s = l.before.before in
     divided_all s.args.g s.requires.0 s.args.register s.args.packet.now l.loop.i (omega arith) l.loop.invariant.1
 
-pub divide-spec : {M : Type 1} → statement M
-divide-spec =
+pub divide_spec : {M : Type 1} → statement M
+divide_spec =
     tie.close
     (tie.spec
     invariant-loop

@@ -36,6 +36,6 @@ returns c =
     let s = l.before.before.before in
     divided_all ccitt ccitt_fit s.args.register s.args.packet.now l.loop.i (omega arith) l.loop.invariant.1
 
-pub divide-by-ccitt-spec : {M : Type 1} → statement M
-divide-by-ccitt-spec =
+pub divide_by_ccitt_spec : {M : Type 1} → statement M
+divide_by_ccitt_spec =
     tie.close (tie.spec invariant-loop decreases-loop loop-holds (λ c. omega arith) append-requires (λ c. omega arith) (λ c. omega arith) loop-again returns)

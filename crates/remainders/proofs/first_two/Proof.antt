@@ -8,8 +8,8 @@ use Rattle.remainders.proofs.first_two.Tie as tie
 returns : tie.Need-returns
 returns c = let s = c.before.before in omega (arith, polynomial_two s.args.packet.now s.requires)
 
-pub first-two-spec : {M : Type 1} → statement M
-first-two-spec =
+pub first_two_spec : {M : Type 1} → statement M
+first_two_spec =
     tie.close
     (tie.spec
     (λ c. search rules)

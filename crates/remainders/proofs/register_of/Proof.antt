@@ -46,8 +46,8 @@ returns c =
     let e : l.loop.i ≡ l.before.args.g.degree = omega arith in
     (l.loop.invariant.1, rw e at l.loop.invariant.2)
 
-pub register-of-spec : {M : Type 1} → statement M
-register-of-spec =
+pub register_of_spec : {M : Type 1} → statement M
+register_of_spec =
     tie.close
     (tie.spec
     invariant-loop

@@ -26,8 +26,8 @@ returns c =
     -- both sums may be written in another order, or with a zero: refl would tie the proof to one
     (search (xor_comm, xor_zero_r)) c.before.divide-by-ccitt.ensures (search (xor_comm, xor_zero_r))
 
-pub remainder-by-ccitt-spec : {M : Type 1} → statement M
-remainder-by-ccitt-spec =
+pub remainder_by_ccitt_spec : {M : Type 1} → statement M
+remainder_by_ccitt_spec =
     tie.close
     (tie.spec
     (λ c κs. enough c.before)

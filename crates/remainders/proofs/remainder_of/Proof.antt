@@ -26,6 +26,6 @@ returns-2 c =
     ∙ register_reads s.args.crc s.args.packet.now register.register_of.result s.requires
     (λ i. omega (arith, known.shared-slice-known.given i)) register.register_of.ensures.1
 
-pub remainder-of-spec : {M : Type 1} → statement M
-remainder-of-spec =
+pub remainder_of_spec : {M : Type 1} → statement M
+remainder_of_spec =
     tie.close (tie.spec remainder-by-ccitt-requires (λ c. search rules) (λ c κs. search rules) (λ c κs. search rules) returns-2)

@@ -16,8 +16,8 @@ returns-3 c = rw c.before.enum-told3.given.1 (refl, refl)
 returns-4 : tie.Need-returns-4
 returns-4 c = rw c.before.enum-told4.given.1 (refl, refl)
 
-pub hand-back-spec : {M : Type 1} → statement M
-hand-back-spec =
+pub hand_back_spec : {M : Type 1} → statement M
+hand_back_spec =
     tie.close
     (tie.spec
     (λ c. search rules)

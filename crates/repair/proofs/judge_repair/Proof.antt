@@ -67,8 +67,8 @@ returns-4 c = stops (left8 c.before.before) c.before.unfit-check-field.ensures c
 returns-5 : tie.Need-returns-5
 returns-5 c = goes_on (but (left8 c.before.before) c.before.unfit-check-field.ensures c.if3.false)
 
-pub judge-repair-spec : {M : Type 1} → statement M
-judge-repair-spec =
+pub judge_repair_spec : {M : Type 1} → statement M
+judge_repair_spec =
     tie.close
     (tie.spec
     (λ c κs. search rules)

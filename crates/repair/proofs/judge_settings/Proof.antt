@@ -92,8 +92,8 @@ returns-4 c = stops (left5 c.before.before) (tested6 c.before) c.if3.true
 returns-5 : tie.Need-returns-5
 returns-5 c = goes_on (but (left5 c.before.before) (tested6 c.before) c.if3.false)
 
-pub judge-settings-spec : {M : Type 1} → statement M
-judge-settings-spec =
+pub judge_settings_spec : {M : Type 1} → statement M
+judge_settings_spec =
     tie.close
     (tie.spec
     (λ c κs. search rules)

@@ -80,8 +80,8 @@ returns-2 c =
           ∙ sym (let_through (repair_conditions r) e h (λ _. r.output) (output_for r.crc r.check r.limit r.packet r.output)),
     )
 
-pub repair-spec : {M : Type 1} → statement M
-repair-spec =
+pub repair_spec : {M : Type 1} → statement M
+repair_spec =
     tie.close
     (tie.spec
     (λ c κs. search rules)

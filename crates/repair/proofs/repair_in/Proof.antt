@@ -9,8 +9,8 @@ use Rattle.repair.proofs.repair_in.Tie as tie
 slice-aggregate-conclude : tie.Need-slice-aggregate-conclude
 slice-aggregate-conclude c = sym (as_long c.before.before.before.prepare.ensures)
 
-pub repair-in-spec : {M : Type 1} → statement M
-repair-in-spec =
+pub repair_in_spec : {M : Type 1} → statement M
+repair_in_spec =
     tie.close
     (tie.spec
     (λ c. search rules)

@@ -12,5 +12,5 @@ returns c = sym (empty_check_field_fits _ (omega (arith, c.if1.true)))
 returns-2 : tie.Need-returns-2
 returns-2 c = c.unfit-field.ensures ∙ sym (check_field_as_stamp _ (omega (arith, c.before.if1.false)))
 
-pub unfit-check-field-spec : {M : Type 1} → statement M
-unfit-check-field-spec = tie.close (tie.spec returns (λ c κs. search rules) returns-2)
+pub unfit_check_field_spec : {M : Type 1} → statement M
+unfit_check_field_spec = tie.close (tie.spec returns (λ c κs. search rules) returns-2)

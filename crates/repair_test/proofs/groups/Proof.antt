@@ -9,8 +9,8 @@ invariant-loop text steps₀ firsts₀ at₀ left₀ steps firsts at left = (len
 abbrev decreases-loop : tie.decreases-loop
 decreases-loop text steps₀ firsts₀ at₀ left₀ steps firsts at left = left
 
-pub groups-spec : {M : Type 1} → statement M
-groups-spec =
+pub groups_spec : {M : Type 1} → statement M
+groups_spec =
     tie.close
     (tie.spec
     invariant-loop

@@ -9,8 +9,8 @@ invariant-loop set steps firsts first count packet₀ out₀ i₀ packet out i =
 abbrev decreases-loop : tie.decreases-loop
 decreases-loop set steps firsts first count packet₀ out₀ i₀ packet out i = count - i
 
-pub sweep-spec : {M : Type 1} → statement M
-sweep-spec =
+pub sweep_spec : {M : Type 1} → statement M
+sweep_spec =
     tie.close
     (tie.spec
     invariant-loop

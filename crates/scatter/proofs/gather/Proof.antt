@@ -13,5 +13,5 @@ returns c =
     let left = done.1 ∙ output_exchanged {r = a.rows} {c = a.columns} a.input.now a.output.now (omega arith) (omega arith) in
     (done.0 ∙ call_exchanged a.input.now a.output.now (omega arith) (omega arith), left)
 
-pub gather-spec : {M : Type 1} → statement M
-gather-spec = tie.close (tie.spec (λ c κs. search rules) (λ c. search rules) returns)
+pub gather_spec : {M : Type 1} → statement M
+gather_spec = tie.close (tie.spec (λ c κs. search rules) (λ c. search rules) returns)

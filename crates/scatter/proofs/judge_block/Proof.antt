@@ -34,8 +34,8 @@ returns-2 c = stops (left1 c.before.before) c.before.unfit-lengths.ensures c.if2
 returns-3 : tie.Need-returns-3
 returns-3 c = goes_on (but (left1 c.before.before) c.before.unfit-lengths.ensures c.if2.false)
 
-pub judge-block-spec : {M : Type 1} → statement M
-judge-block-spec =
+pub judge_block_spec : {M : Type 1} → statement M
+judge_block_spec =
     tie.close
     (tie.spec
     (λ c κs. search rules)

@@ -90,8 +90,8 @@ same_length c = c.before.loop.invariant.part.long ∙ sym c.before.before.requir
 returns : tie.Need-returns invariant-loop decreases-loop
 returns c = part_at c.before.loop.invariant.part (omega (arith, c.before.loop.invariant.target))
 
-pub read-column-spec : {M : Type 1} → statement M
-read-column-spec =
+pub read_column_spec : {M : Type 1} → statement M
+read_column_spec =
     tie.close
     (tie.spec
     invariant-loop

@@ -47,8 +47,8 @@ returns c =
     let long = length-scattered a.rows a.columns a.input.now in
     part_all c.before.loop.invariant.1 (omega (arith, long, mul_comm a.rows a.columns, ap (λ (m : ℕ). m * a.rows) all))
 
-pub read-columns-spec : {M : Type 1} → statement M
-read-columns-spec =
+pub read_columns_spec : {M : Type 1} → statement M
+read_columns_spec =
     tie.close
     (tie.spec
     invariant-loop

@@ -50,8 +50,8 @@ returns-2 c =
       w.read-columns.ensures ∙ sym (let_through (conditions s) j.judge-block.ensures h (λ _. s.args.output.now) (whole s)),
     )
 
-pub scatter-spec : {M : Type 1} → statement M
-scatter-spec =
+pub scatter_spec : {M : Type 1} → statement M
+scatter_spec =
     tie.close
     (tie.spec
     (λ c κs. search rules)

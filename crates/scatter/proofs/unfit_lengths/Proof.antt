@@ -29,5 +29,5 @@ returns-3 c =
     let a = c.before.before.args in
     sym (lengths_fit a.rows a.columns a.input a.output (omega (arith, c.before.if1.false)) (omega (arith, c.if2.false)))
 
-pub unfit-lengths-spec : {M : Type 1} → statement M
-unfit-lengths-spec = tie.close (tie.spec mul-bytes returns returns-2 returns-3)
+pub unfit_lengths_spec : {M : Type 1} → statement M
+unfit_lengths_spec = tie.close (tie.spec mul-bytes returns returns-2 returns-3)

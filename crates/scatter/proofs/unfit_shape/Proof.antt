@@ -13,5 +13,5 @@ returns-2 : tie.Need-returns-2
 unfolding unfit_shape
 returns-2 c = c.unfit-side2.ensures ∙ simp (sym c.before.before.unfit-side.ensures ∙ c.before.if1.false)
 
-pub unfit-shape-spec : {M : Type 1} → statement M
-unfit-shape-spec = tie.close (tie.spec (λ c κs. search rules) returns (λ c κs. search rules) returns-2)
+pub unfit_shape_spec : {M : Type 1} → statement M
+unfit_shape_spec = tie.close (tie.spec (λ c κs. search rules) returns (λ c κs. search rules) returns-2)

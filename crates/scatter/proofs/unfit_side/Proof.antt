@@ -14,5 +14,5 @@ returns-2 c = sym (above_unfit _ (omega (arith, c.if2.true)))
 returns-3 : tie.Need-returns-3
 returns-3 c = sym (within_fits _ (omega (arith, c.before.if1.false)) (omega (arith, c.if2.false)))
 
-pub unfit-side-spec : {M : Type 1} → statement M
-unfit-side-spec = tie.close (tie.spec returns returns-2 returns-3)
+pub unfit_side_spec : {M : Type 1} → statement M
+unfit_side_spec = tie.close (tie.spec returns returns-2 returns-3)

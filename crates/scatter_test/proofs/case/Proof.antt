@@ -12,8 +12,8 @@ slice-aggregate-both-ways c = sym (length-take-le _ _ (omega arith))
 slice-aggregate-both-ways-2 : tie.Need-slice-aggregate-both-ways-2
 slice-aggregate-both-ways-2 c = sym (length-take-le _ _ (omega arith))
 
-pub case-spec : {M : Type 1} → statement M
-case-spec =
+pub case_spec : {M : Type 1} → statement M
+case_spec =
     tie.close
     (tie.spec
     (λ c κs. search rules)

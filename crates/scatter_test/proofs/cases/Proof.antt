@@ -11,8 +11,8 @@ invariant-loop text input₀ output₀ at₀ left₀ input output at left = (len
 abbrev decreases-loop : tie.decreases-loop
 decreases-loop text input₀ output₀ at₀ left₀ input output at left = left
 
-pub cases-spec : {M : Type 1} → statement M
-cases-spec =
+pub cases_spec : {M : Type 1} → statement M
+cases_spec =
     tie.close
     (tie.spec
     invariant-loop

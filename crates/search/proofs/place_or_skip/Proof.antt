@@ -12,5 +12,5 @@ returns c power t =
     let out = sym c.before.ruled_out.ensures ∙ c.if1.true in
     sym (none_placed s.args.generator (length s.args.pos.now) s.args.u out t s.requires.1)
 
-pub place-or-skip-spec : {M : Type 1} → statement M
-place-or-skip-spec = tie.close (tie.spec (λ c κs. search rules) returns (λ c κs. search rules) (λ c. search rules) (λ c. search rules))
+pub place_or_skip_spec : {M : Type 1} → statement M
+place_or_skip_spec = tie.close (tie.spec (λ c κs. search rules) returns (λ c κs. search rules) (λ c. search rules) (λ c. search rules))

@@ -12,5 +12,5 @@ returns c power t =
     let out = sym c.before.ruled_out.ensures ∙ c.if1.true in
     sym (none_after s.args.generator (length s.args.pos.now) s.args.u out t s.requires.2 s.args.pos.now refl)
 
-pub resume-or-skip-spec : {M : Type 1} → statement M
-resume-or-skip-spec = tie.close (tie.spec (λ c κs. search rules) returns (λ c κs. search rules) (λ c. search rules) (λ c. search rules))
+pub resume_or_skip_spec : {M : Type 1} → statement M
+resume_or_skip_spec = tie.close (tie.spec (λ c κs. search rules) returns (λ c κs. search rules) (λ c. search rules) (λ c. search rules))

@@ -76,8 +76,8 @@ returns-2 c =
           ∙ rise_none power l n s.args.u k),
     )
 
-pub rise-spec : {M : Type 1} → statement M
-rise-spec =
+pub rise_spec : {M : Type 1} → statement M
+rise_spec =
     tie.close
     (tie.spec
     invariant-loop

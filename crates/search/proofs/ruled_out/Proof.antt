@@ -35,5 +35,5 @@ returns-3 c =
     let g = c.before.before.args.generator in
     simp (apart c.before, eq-eqb (ones g % 2) 0 (omega (arith, c.if2.false)))
 
-pub ruled-out-spec : {M : Type 1} → statement M
-ruled-out-spec = tie.close (tie.spec cast-s returns returns-2 returns-3)
+pub ruled_out_spec : {M : Type 1} → statement M
+ruled_out_spec = tie.close (tie.spec cast-s returns returns-2 returns-3)

@@ -11,5 +11,5 @@ returns c power t =
     let r = c.before.before.rise in
     told_first power (length s.args.pow.now) (length s.args.pos.now) s.args.syndrome r.result r.new.1.1.1.1.1.1.0 r.ensures.0 (r.ensures.1 power t)
 
-pub search-first-spec : {M : Type 1} → statement M
-search-first-spec = tie.close (tie.spec (λ c κs. search rules) (λ c. search rules) returns)
+pub search_first_spec : {M : Type 1} → statement M
+search_first_spec = tie.close (tie.spec (λ c κs. search rules) (λ c. search rules) returns)

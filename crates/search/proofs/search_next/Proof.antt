@@ -37,8 +37,8 @@ returns-2 c power t =
     q.ensures.0
     (q.ensures.1 power t)
 
-pub search-next-spec : {M : Type 1} → statement M
-search-next-spec =
+pub search_next_spec : {M : Type 1} → statement M
+search_next_spec =
     tie.close
     (tie.spec
     (λ c. search rules)

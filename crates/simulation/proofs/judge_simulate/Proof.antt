@@ -73,8 +73,8 @@ returns-5 c seed = stops (left9 c.before.before seed) c.before.unfit-trials.ensu
 returns-6 : tie.Need-returns-6
 returns-6 c seed = goes_on (but (left9 c.before.before seed) c.before.unfit-trials.ensures c.if4.false)
 
-pub judge-simulate-spec : {M : Type 1} → statement M
-judge-simulate-spec =
+pub judge_simulate_spec : {M : Type 1} → statement M
+judge_simulate_spec =
     tie.close
     (tie.spec
     (λ c κs. search rules)

@@ -92,8 +92,8 @@ returns-2 c =
       ),
     )
 
-pub simulate-spec : {M : Type 1} → statement M
-simulate-spec =
+pub simulate_spec : {M : Type 1} → statement M
+simulate_spec =
     tie.close
     (tie.spec
     (λ c κs. search rules)

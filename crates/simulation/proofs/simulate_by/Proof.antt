@@ -10,8 +10,8 @@ simulate-in-requires c κs =
     let s = c.before.before.before.before.before.before.before.before.before.before in
     (refl, s.requires.0, s.requires.1, s.requires.2, s.requires.3, s.requires.4, s.requires.5, omega (arith, s.requires.0.short))
 
-pub simulate-by-spec : {M : Type 1} → statement M
-simulate-by-spec =
+pub simulate_by_spec : {M : Type 1} → statement M
+simulate_by_spec =
     tie.close
     (tie.spec
     (λ c. search rules)

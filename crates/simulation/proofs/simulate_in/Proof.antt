@@ -36,8 +36,8 @@ returns c =
     let e = left c.before.before.before.before.before.before.before.before.before.before in
     (ap (λ (t : Tried). t.state) e, (ap (λ (t : Tried). t.packet) e, (ap (λ (t : Tried). t.output) e, c.before.before.put-rows.ensures ∙ ap (λ (t : Tried). joined_rows t.counts) e)))
 
-pub simulate-in-spec : {M : Type 1} → statement M
-simulate-in-spec =
+pub simulate_in_spec : {M : Type 1} → statement M
+simulate_in_spec =
     tie.close
     (tie.spec
     (λ c. search rules)

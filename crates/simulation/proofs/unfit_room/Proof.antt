@@ -22,5 +22,5 @@ returns-3 : tie.Need-returns-3
 unfolding unfit_room
 returns-3 c = rw (← copy_fit _ _ c.before.if1.false) (sym (ap not (eq-eqb c.before.before.args.counts 45 (omega (arith, c.if2.false)))))
 
-pub unfit-room-spec : {M : Type 1} → statement M
-unfit-room-spec = tie.close (tie.spec returns returns-2 returns-3)
+pub unfit_room_spec : {M : Type 1} → statement M
+unfit_room_spec = tie.close (tie.spec returns returns-2 returns-3)

@@ -13,5 +13,5 @@ returns-2 : tie.Need-returns-2
 unfolding unfit_trials
 returns-2 c = sym (simp (ne_eqb _ _ c.if1.false))
 
-pub unfit-trials-spec : {M : Type 1} → statement M
-unfit-trials-spec = tie.close (tie.spec returns returns-2)
+pub unfit_trials_spec : {M : Type 1} → statement M
+unfit_trials_spec = tie.close (tie.spec returns returns-2)

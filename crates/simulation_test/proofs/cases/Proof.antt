@@ -9,7 +9,7 @@ invariant-loop text at count steps firsts next₀ left₀ next left = Unit {0}
 abbrev decreases-loop : tie.decreases-loop
 decreases-loop text at count steps firsts next₀ left₀ next left = left
 
-pub cases-spec : {M : Type 1} → statement M
-cases-spec =
+pub cases_spec : {M : Type 1} → statement M
+cases_spec =
     tie.close
     (tie.spec invariant-loop decreases-loop (λ c. search rules) (λ c κs. search rules) (λ c. search rules) (λ c. search rules) (λ c. search rules) (λ c. search rules))

@@ -16,8 +16,8 @@ decreases-loop counts₀ seed state₀ i₀ counts state i = length counts₀ - 
 loop-again : tie.Need-loop-preserved invariant-loop decreases-loop
 loop-again c = simp length-set (omega arith)
 
-pub fill-counts-spec : {M : Type 1} → statement M
-fill-counts-spec =
+pub fill_counts_spec : {M : Type 1} → statement M
+fill_counts_spec =
     tie.close
     (tie.spec
     invariant-loop

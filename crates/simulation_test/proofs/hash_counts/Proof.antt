@@ -22,8 +22,8 @@ mul-h-2 c =
     let below = xor_lt 32 at.h (get_or c.before.before.before.args.counts.now at.i 0) at.invariant (omega arith) in
     omega arith
 
-pub hash-counts-spec : {M : Type 1} → statement M
-hash-counts-spec =
+pub hash_counts_spec : {M : Type 1} → statement M
+hash_counts_spec =
     tie.close
     (tie.spec
     invariant-loop

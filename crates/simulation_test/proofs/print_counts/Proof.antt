@@ -11,8 +11,8 @@ invariant-loop counts i₀ t3 i = Unit {0}
 abbrev decreases-loop : tie.decreases-loop
 decreases-loop counts i₀ t3 i = length counts - i
 
-pub print-counts-spec : {M : Type 1} → statement M
-print-counts-spec =
+pub print_counts_spec : {M : Type 1} → statement M
+print_counts_spec =
     tie.close
     (tie.spec
     invariant-loop

@@ -9,8 +9,8 @@ use Rattle.simulation_test.proofs.with_counts.Tie as tie
 slice-aggregate-ask-filled : tie.Need-slice-aggregate-ask-filled
 slice-aggregate-ask-filled c = sym (length-take-le _ _ (omega arith))
 
-pub with-counts-spec : {M : Type 1} → statement M
-with-counts-spec =
+pub with_counts_spec : {M : Type 1} → statement M
+with_counts_spec =
     tie.close
     (tie.spec
     (λ c κs. search rules)

@@ -20,8 +20,8 @@ returns c power t =
     let f : n - 1 ≡ 2 = omega arith in
     rw (e, f) (c.before.before.one-between.ensures power t)
 
-pub between-spec : {M : Type 1} → statement M
-between-spec =
+pub between_spec : {M : Type 1} → statement M
+between_spec =
     tie.close
     (tie.spec
     one-between-requires

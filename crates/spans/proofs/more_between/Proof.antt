@@ -78,8 +78,8 @@ returns c power t =
     (left_known t s.args.u (get_or q 0 0) (get_or q (length q - 1) 0) (omega (arith, k.apart, k.below)) k.below)
     m.result ys (m.ensures power (lookup_front t (get_or q (length q - 1) 0) e)))
 
-pub more-between-spec : {M : Type 1} → statement M
-more-between-spec =
+pub more_between_spec : {M : Type 1} → statement M
+more_between_spec =
     tie.close
     (tie.spec
     (λ c. search rules)

@@ -111,8 +111,8 @@ returns-2 c power t =
     c.before.loop.invariant.5 power t false c.before.loop.pos
     (span_past power (length s.args.pos.now - 2) s.args.u (length s.args.pow.now) s.args.span c.before.loop.a (omega arith))
 
-pub more-of-span-spec : {M : Type 1} → statement M
-more-of-span-spec =
+pub more_of_span_spec : {M : Type 1} → statement M
+more_of_span_spec =
     tie.close
     (tie.spec
     invariant-loop

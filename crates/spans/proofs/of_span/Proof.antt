@@ -27,8 +27,8 @@ returns-2 c power t =
     let e : length c.before.before.before.before.before.before.before.before.before.args.pos.now - 2 ≡ 1 = omega (arith, c.before.before.before.before.if2.true) in
     rw e (c.before.before.three-of-span.ensures power t)
 
-pub of-span-spec : {M : Type 1} → statement M
-of-span-spec =
+pub of_span_spec : {M : Type 1} → statement M
+of_span_spec =
     tie.close
     (tie.spec
     two-of-span-requires

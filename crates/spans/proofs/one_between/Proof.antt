@@ -87,8 +87,8 @@ returns c power t =
 returns-2 : tie.Need-returns-2
 returns-2 c power t = told c.before power t false (le-ltb _ _ c.if1.false)
 
-pub one-between-spec : {M : Type 1} → statement M
-one-between-spec =
+pub one_between_spec : {M : Type 1} → statement M
+one_between_spec =
     tie.close
     (tie.spec
     (λ c. search rules)

@@ -90,8 +90,8 @@ returns-2 c power t =
     let i = c.before.loop in
     i.invariant.2 power t false i.pos (span_past power 1 s.args.u (length s.args.pow.now) s.args.span (i.b - s.args.span) (omega arith))
 
-pub three-of-span-spec : {M : Type 1} → statement M
-three-of-span-spec =
+pub three_of_span_spec : {M : Type 1} → statement M
+three_of_span_spec =
     tie.close
     (tie.spec
     invariant-loop

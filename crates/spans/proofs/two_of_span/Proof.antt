@@ -72,8 +72,8 @@ returns-2 c power t =
     c.before.loop.invariant.3 power t false c.before.loop.pos
     (span_past power 0 s.args.u (length s.args.pow.now) s.args.span c.before.loop.a (omega arith))
 
-pub two-of-span-spec : {M : Type 1} → statement M
-two-of-span-spec =
+pub two_of_span_spec : {M : Type 1} → statement M
+two_of_span_spec =
     tie.close
     (tie.spec
     invariant-loop

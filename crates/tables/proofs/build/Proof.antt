@@ -21,7 +21,7 @@ walk-requires c κs =
     let e = c.before.before.before.before.before.before.before.before.before.before.before in
     cleared e.args.g e.args.firsts.now _ e.requires.1 c.before.before.before.clear.ensures
 
-pub build-spec : {M : Type 1} → statement M
-build-spec =
+pub build_spec : {M : Type 1} → statement M
+build_spec =
     tie.close
     (tie.spec (λ c κs. search rules) (λ c κs. search rules) walk-requires (λ c. search rules) (λ c. search rules) (λ c. search rules))

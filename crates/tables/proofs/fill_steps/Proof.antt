@@ -46,8 +46,8 @@ returns c =
     step_table_by_entries e.args.g.degree e.args.g.coefficients c.before.loop.steps (c.before.loop.invariant.1 ∙ e.requires.full)
     (λ s b. c.before.loop.invariant.2 s (omega arith))
 
-pub fill-steps-spec : {M : Type 1} → statement M
-fill-steps-spec =
+pub fill_steps_spec : {M : Type 1} → statement M
+fill_steps_spec =
     tie.close
     (tie.spec
     invariant-loop

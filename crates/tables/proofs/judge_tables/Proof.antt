@@ -43,8 +43,8 @@ returns-2 c = stops (left1 c.before.before.before) (tested2 c.before) c.if2.true
 returns-3 : tie.Need-returns-3
 returns-3 c = goes_on (but (left1 c.before.before.before) (tested2 c.before) c.if2.false)
 
-pub judge-tables-spec : {M : Type 1} → statement M
-judge-tables-spec =
+pub judge_tables_spec : {M : Type 1} → statement M
+judge_tables_spec =
     tie.close
     (tie.spec
     (λ c κs. search rules)

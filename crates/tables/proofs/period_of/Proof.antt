@@ -56,8 +56,8 @@ add-result c = omega (arith, c.shared-slice-known2.given (get_or c.before.before
 returns : tie.Need-returns
 returns c = omega (arith, (looked-up c.before.before).entry)
 
-pub period-of-spec : {M : Type 1} → statement M
-period-of-spec =
+pub period_of_spec : {M : Type 1} → statement M
+period_of_spec =
     tie.close
     (tie.spec
     shared-slice-read-t

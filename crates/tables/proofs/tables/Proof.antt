@@ -62,8 +62,8 @@ returns-2 c =
       ),
     )
 
-pub tables-spec : {M : Type 1} → statement M
-tables-spec =
+pub tables_spec : {M : Type 1} → statement M
+tables_spec =
     tie.close
     (tie.spec
     (λ c κs. search rules)

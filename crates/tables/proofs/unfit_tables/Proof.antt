@@ -22,5 +22,5 @@ returns-2 c =
     ap (λ (x : ℕ). not (eqb e.args.firsts x)) size
     ∙ sym (fit_steps e.args.g.degree e.args.steps e.args.firsts (c.if1.false ∙ size))
 
-pub unfit-tables-spec : {M : Type 1} → statement M
-unfit-tables-spec = tie.close (tie.spec (λ c. search rules) (λ c. search rules) returns returns-2)
+pub unfit_tables_spec : {M : Type 1} → statement M
+unfit_tables_spec = tie.close (tie.spec (λ c. search rules) (λ c. search rules) returns returns-2)

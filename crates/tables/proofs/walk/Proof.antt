@@ -119,8 +119,8 @@ returns c =
     let end = returned n g lent.fit.divisor one c.before.before.loop.p c.before.before.loop.invariant.0 (omega (arith, t.power-of, c.if1.true)) in
     (end, walked_all n g lent.fit.divisor one lent.fit.most _ (t.size ∙ lent.full) (rw end at t.walked))
 
-pub walk-spec : {M : Type 1} → statement M
-walk-spec =
+pub walk_spec : {M : Type 1} → statement M
+walk_spec =
     tie.close
     (tie.spec
     invariant-loop

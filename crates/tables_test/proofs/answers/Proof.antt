@@ -11,8 +11,8 @@ invariant-loop size generators steps₀ firsts₀ at₀ left₀ steps firsts at 
 abbrev decreases-loop : tie.decreases-loop
 decreases-loop size generators steps₀ firsts₀ at₀ left₀ steps firsts at left = left
 
-pub answers-spec : {M : Type 1} → statement M
-answers-spec =
+pub answers_spec : {M : Type 1} → statement M
+answers_spec =
     tie.close
     (tie.spec
     invariant-loop

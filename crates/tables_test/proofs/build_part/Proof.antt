@@ -16,8 +16,8 @@ slice-aggregate-build-2 c =
     let e = c.before.before.before.before.before.before in
     sym (length-take-le e.args.m e.args.firsts.now (omega arith))
 
-pub build-part-spec : {M : Type 1} → statement M
-build-part-spec =
+pub build_part_spec : {M : Type 1} → statement M
+build_part_spec =
     tie.close
     (tie.spec
     (λ c. search rules)

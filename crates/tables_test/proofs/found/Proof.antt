@@ -12,8 +12,8 @@ invariant-loop generator has-steps table₀ other s right count₀ j₀ table co
 abbrev decreases-loop : tie.decreases-loop
 decreases-loop generator has-steps table₀ other s right count₀ j₀ table count j = 16 - j
 
-pub found-spec : {M : Type 1} → statement M
-found-spec =
+pub found_spec : {M : Type 1} → statement M
+found_spec =
     tie.close
     (tie.spec
     invariant-loop

@@ -10,8 +10,8 @@ invariant-loop s n most count₀ i₀ count i = (i ≤ most) × (count ≤ i)
 abbrev decreases-loop : tie.decreases-loop
 decreases-loop s n most count₀ i₀ count i = most - i
 
-pub kept-spec : {M : Type 1} → statement M
-kept-spec =
+pub kept_spec : {M : Type 1} → statement M
+kept_spec =
     tie.close
     (tie.spec
     invariant-loop

@@ -12,8 +12,8 @@ invariant-loop generator steps₀ firsts₀ apart s₀ steps firsts s = (length 
 abbrev decreases-loop : tie.decreases-loop
 decreases-loop generator steps₀ firsts₀ apart s₀ steps firsts s = length steps₀ - s
 
-pub places-spec : {M : Type 1} → statement M
-places-spec =
+pub places_spec : {M : Type 1} → statement M
+places_spec =
     tie.close
     (tie.spec
     invariant-loop

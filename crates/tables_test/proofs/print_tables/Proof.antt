@@ -11,8 +11,8 @@ invariant-loop steps firsts s₀ s = s ≤ length steps
 abbrev decreases-loop : tie.decreases-loop
 decreases-loop steps firsts s₀ s = length steps - s
 
-pub print-tables-spec : {M : Type 1} → statement M
-print-tables-spec =
+pub print_tables_spec : {M : Type 1} → statement M
+print_tables_spec =
     tie.close
     (tie.spec
     invariant-loop

@@ -31,8 +31,8 @@ verify-requires c κs =
     let full = fit_lengths _ _ _ (sym c.before.unfit-tables.ensures ∙ c.if1.false) in
     (record { fit = g; full = full.0 }, record { fit = g; full = full.1 })
 
-pub verdict-spec : {M : Type 1} → statement M
-verdict-spec =
+pub verdict_spec : {M : Type 1} → statement M
+verdict_spec =
     tie.close
     (tie.spec
     (λ c κs. search rules)

@@ -30,7 +30,7 @@ returns c =
     subst (λ (m : ℕ). Tallied (sift (λ ps. passes a.w.check (flips a.packet.now ps)) (listing a.cursor.generator.degree a.cursor.generator.coefficients (length a.pow.now) m a.cursor.syndrome)) f.tally-by.result)
     (length-take-le _ _ s.requires.3) f.tally-by.ensures
 
-pub tally-all-spec : {M : Type 1} → statement M
-tally-all-spec =
+pub tally_all_spec : {M : Type 1} → statement M
+tally_all_spec =
     tie.close
     (tie.spec (λ c. search rules) slice-aggregate-tally-by tally-by-requires returns)

@@ -55,5 +55,5 @@ returns c =
     (met_in_any_order g.degree g.coefficients l m a.cursor.syndrome (walk_meets g.degree g.coefficients l m a.cursor.syndrome) P)
     (rw (kept b, whole) at f.tally-from.ensures)
 
-pub tally-by-spec : {M : Type 1} → statement M
-tally-by-spec = tie.close (tie.spec (λ c κs. search rules) tally-from-requires (λ c. search rules) returns)
+pub tally_by_spec : {M : Type 1} → statement M
+tally_by_spec = tie.close (tie.spec (λ c κs. search rules) tally-from-requires (λ c. search rules) returns)

@@ -106,8 +106,8 @@ loop-again c =
     tallying_more f k.before.ahead.given.1 ok.passes-flipped.result ok.passes-flipped.ensures one.tally-one.result
     (one.tally-one.ensures f.kept (new f k.before.ahead.given.1 ok.passes-flipped.result ok.passes-flipped.ensures) f.tallied) c.before.before.meet-next.result c.before.before.meet-next.new.1.1.1.0 (next c) (l ∙ f.placed)
 
-pub tally-from-spec : {M : Type 1} → statement M
-tally-from-spec =
+pub tally_from_spec : {M : Type 1} → statement M
+tally_from_spec =
     tie.close
     (tie.spec
     invariant-loop

@@ -34,5 +34,5 @@ returns-4 c =
     let a = f.before.before.args in
     later-passes a.ok a.pos.now f.if1.false (λ h. omega (arith, h, i.before.if2.false)) (sym i.is-before.ensures ∙ c.if3.false)
 
-pub tally-one-spec : {M : Type 1} → statement M
-tally-one-spec = tie.close (tie.spec returns (λ c. search rules) (λ c κs. search rules) returns-2 (λ c κs. search rules) (λ c κs. search rules) returns-3 returns-4)
+pub tally_one_spec : {M : Type 1} → statement M
+tally_one_spec = tie.close (tie.spec returns (λ c. search rules) (λ c κs. search rules) returns-2 (λ c κs. search rules) (λ c κs. search rules) returns-3 returns-4)

@@ -12,8 +12,8 @@ slice-aggregate-tables c = sym (length-take-le _ _ (omega arith))
 slice-aggregate-tables-2 : tie.Need-slice-aggregate-tables-2
 slice-aggregate-tables-2 c = sym (length-take-le _ _ (omega arith))
 
-pub build-spec : {M : Type 1} → statement M
-build-spec =
+pub build_spec : {M : Type 1} → statement M
+build_spec =
     tie.close
     (tie.spec
     (λ c. search rules)

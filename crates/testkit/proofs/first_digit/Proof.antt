@@ -17,8 +17,8 @@ loop-holds c = tt
 loop-again : tie.Need-loop-preserved invariant-loop decreases-loop
 loop-again c = tt
 
-pub first-digit-spec : {M : Type 1} → statement M
-first-digit-spec =
+pub first_digit_spec : {M : Type 1} → statement M
+first_digit_spec =
     tie.close
     (tie.spec
     invariant-loop

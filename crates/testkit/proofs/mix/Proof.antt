@@ -22,8 +22,8 @@ mul-h c =
     let below = xor_lt 32 at.h (get_or c.before.before.before.args.bytes.now at.i 0) at.invariant (omega arith) in
     omega arith
 
-pub mix-spec : {M : Type 1} → statement M
-mix-spec =
+pub mix_spec : {M : Type 1} → statement M
+mix_spec =
     tie.close
     (tie.spec
     invariant-loop

@@ -14,8 +14,8 @@ decreases-loop text at value₀ i₀ value i = length text - i
 first-digit-requires : tie.Need-first-digit-requires invariant-loop decreases-loop
 first-digit-requires c κs = tt
 
-pub number-spec : {M : Type 1} → statement M
-number-spec =
+pub number_spec : {M : Type 1} → statement M
+number_spec =
     tie.close
     (tie.spec
     invariant-loop

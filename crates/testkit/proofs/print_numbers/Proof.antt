@@ -11,8 +11,8 @@ invariant-loop numbers i₀ i = Unit {0}
 abbrev decreases-loop : tie.decreases-loop
 decreases-loop numbers i₀ i = length numbers - i
 
-pub print-numbers-spec : {M : Type 1} → statement M
-print-numbers-spec =
+pub print_numbers_spec : {M : Type 1} → statement M
+print_numbers_spec =
     tie.close
     (tie.spec
     invariant-loop

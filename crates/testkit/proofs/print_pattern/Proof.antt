@@ -9,8 +9,8 @@ use Rattle.testkit.proofs.print_pattern.Tie as tie
 slice-aggregate-print-positions : tie.Need-slice-aggregate-print-positions
 slice-aggregate-print-positions c = sym (length-take-le _ _ (omega arith))
 
-pub print-pattern-spec : {M : Type 1} → statement M
-print-pattern-spec =
+pub print_pattern_spec : {M : Type 1} → statement M
+print_pattern_spec =
     tie.close
     (tie.spec
     (λ c κs. search rules)

@@ -11,8 +11,8 @@ invariant-loop pos i₀ i = i ≤ length pos
 abbrev decreases-loop : tie.decreases-loop
 decreases-loop pos i₀ i = length pos - i
 
-pub print-positions-spec : {M : Type 1} → statement M
-print-positions-spec =
+pub print_positions_spec : {M : Type 1} → statement M
+print_positions_spec =
     tie.close
     (tie.spec
     invariant-loop

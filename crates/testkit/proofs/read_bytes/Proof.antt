@@ -21,8 +21,8 @@ loop-again c = simp length-set (omega arith)
 returns : tie.Need-returns invariant-loop decreases-loop
 returns c = tt
 
-pub read-bytes-spec : {M : Type 1} → statement M
-read-bytes-spec =
+pub read_bytes_spec : {M : Type 1} → statement M
+read_bytes_spec =
     tie.close
     (tie.spec
     invariant-loop

@@ -51,8 +51,8 @@ returns-3 c =
     let a = e.before.args in
     sym (true_same _ _ (front-all a.p.now a.q.now l.i (omega arith) (omega (arith, e.if1.false)) l.invariant.1))
 
-pub are-same-spec : {M : Type 1} → statement M
-are-same-spec =
+pub are_same_spec : {M : Type 1} → statement M
+are_same_spec =
     tie.close
     (tie.spec
     invariant-loop

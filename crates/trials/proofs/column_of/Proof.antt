@@ -26,8 +26,8 @@ returns-4 c = rw c.enum-told2.given.1 refl
 returns-5 : tie.Need-returns-5
 returns-5 c = rw c.enum-told3.given.1 refl
 
-pub column-of-spec : {M : Type 1} → statement M
-column-of-spec =
+pub column_of_spec : {M : Type 1} → statement M
+column_of_spec =
     tie.close
     (tie.spec
     (λ c. search rules)

@@ -32,5 +32,5 @@ returns c =
       v.conclude.ensures.1,
     )
 
-pub conclude-trial-spec : {M : Type 1} → statement M
-conclude-trial-spec = tie.close (tie.spec conclude-requires (λ c κs. search rules) (λ c. search rules) returns)
+pub conclude_trial_spec : {M : Type 1} → statement M
+conclude_trial_spec = tie.close (tie.spec conclude-requires (λ c κs. search rules) (λ c. search rules) returns)

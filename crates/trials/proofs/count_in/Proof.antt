@@ -20,8 +20,8 @@ returns c =
     let row = get_or a.rows a.row [] in
     ap (λ (n : ℕ). set a.rows a.row (set row a.column n)) (add-one (get_or row a.column 0))
 
-pub count-in-spec : {M : Type 1} → statement M
-count-in-spec =
+pub count_in_spec : {M : Type 1} → statement M
+count_in_spec =
     tie.close
     (tie.spec
     (λ c. search rules)

@@ -25,8 +25,8 @@ returns c =
     let a = n.before.before.before.args in
     c.are-same.ensures ∙ ap (λ (l : List ℕ). same l a.flipped.now) (spread_held a.p n.before.spread.ensures n.count_of.ensures)
 
-pub names-spec : {M : Type 1} → statement M
-names-spec =
+pub names_spec : {M : Type 1} → statement M
+names_spec =
     tie.close
     (tie.spec
     (λ c κs. search rules)

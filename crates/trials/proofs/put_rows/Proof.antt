@@ -51,8 +51,8 @@ returns c =
     let s = c.before.before in
     sym (take_all l.i l.counts (omega (arith, l.invariant.1))) ∙ l.invariant.2 ∙ take_all l.i (joined_rows s.args.t1) (omega (arith, forty-five s.args.t1 s.requires.1, s.requires.0))
 
-pub put-rows-spec : {M : Type 1} → statement M
-put-rows-spec =
+pub put_rows_spec : {M : Type 1} → statement M
+put_rows_spec =
     tie.close
     (tie.spec
     invariant-loop

@@ -43,8 +43,8 @@ returns c =
     let made = m.make-accepted.ensures.1 in
     (d.draw.ensures.0 ∙ ap (state_after n) state, (f.flip-bits.ensures ∙ ap₂ flips made taken, ((subst Bytes made (bytes d.before.before), sym (ap length made) ∙ long m), taken)))
 
-pub receive-spec : {M : Type 1} → statement M
-receive-spec =
+pub receive_spec : {M : Type 1} → statement M
+receive_spec =
     tie.close
     (tie.spec
     (λ c κs. search rules)

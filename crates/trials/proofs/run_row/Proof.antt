@@ -81,8 +81,8 @@ loop-again c =
 returns : tie.Need-returns invariant-loop decreases-loop
 returns c = row_run_all _ _ _ _ _ c.before.loop.invariant.3 (omega arith)
 
-pub run-row-spec : {M : Type 1} → statement M
-run-row-spec =
+pub run_row_spec : {M : Type 1} → statement M
+run_row_spec =
     tie.close
     (tie.spec
     invariant-loop

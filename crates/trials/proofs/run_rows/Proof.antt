@@ -84,8 +84,8 @@ loop-again c =
 returns : tie.Need-returns invariant-loop decreases-loop
 returns c = rows_run_all _ _ _ _ c.before.loop.invariant.3 (omega arith)
 
-pub run-rows-spec : {M : Type 1} → statement M
-run-rows-spec =
+pub run_rows_spec : {M : Type 1} → statement M
+run_rows_spec =
     tie.close
     (tie.spec
     invariant-loop

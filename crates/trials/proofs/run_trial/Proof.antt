@@ -51,8 +51,8 @@ returns c =
       rw col (column_lt (verdict a.crc a.check a.limit p) p t),
     )
 
-pub run-trial-spec : {M : Type 1} → statement M
-run-trial-spec =
+pub run_trial_spec : {M : Type 1} → statement M
+run_trial_spec =
     tie.close
     (tie.spec
     (λ c κs. search rules)

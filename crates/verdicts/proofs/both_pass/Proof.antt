@@ -11,5 +11,5 @@ returns c = simp (ne_eqb c.before.before.args.syndrome 0 (λ e. c.if1.true (omeg
 returns-2 : tie.Need-returns-2
 returns-2 c = simp (eq-eqb c.before.before.before.args.syndrome 0 (omega arith)) c.passes-received.ensures
 
-pub both-pass-spec : {M : Type 1} → statement M
-both-pass-spec = tie.close (tie.spec returns (λ c κs. search rules) returns-2)
+pub both_pass_spec : {M : Type 1} → statement M
+both_pass_spec = tie.close (tie.spec returns (λ c κs. search rules) returns-2)

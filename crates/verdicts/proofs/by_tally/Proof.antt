@@ -12,5 +12,5 @@ returns-2 c = settled_one c.if2.true
 returns-3 : tie.Need-returns-3
 returns-3 c = settled_more c.before.if1.false c.if2.false
 
-pub by-tally-spec : {M : Type 1} → statement M
-by-tally-spec = tie.close (tie.spec returns returns-2 returns-3)
+pub by_tally_spec : {M : Type 1} → statement M
+by_tally_spec = tie.close (tie.spec returns returns-2 returns-3)

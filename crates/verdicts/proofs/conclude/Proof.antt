@@ -50,8 +50,8 @@ returns-3 c = let v = c.before in stays v.before.before v.v2.given.1 (λ p h. ze
 returns-4 : tie.Need-returns-4
 returns-4 c = stays c.before.before c.enum-told2.given.1 (λ p h. zero_not_one cc)
 
-pub conclude-spec : {M : Type 1} → statement M
-conclude-spec =
+pub conclude_spec : {M : Type 1} → statement M
+conclude_spec =
     tie.close
     (tie.spec
     (λ c κs. search rules)

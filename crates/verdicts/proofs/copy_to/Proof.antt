@@ -48,8 +48,8 @@ returns c =
     let l = c.before.loop in
     ext_get_or 0 l.output c.before.before.args.packet.now l.invariant.long (λ k h. l.invariant.same k (omega (arith, l.invariant.long)))
 
-pub copy-to-spec : {M : Type 1} → statement M
-copy-to-spec =
+pub copy_to_spec : {M : Type 1} → statement M
+copy_to_spec =
     tie.close
     (tie.spec
     invariant-loop

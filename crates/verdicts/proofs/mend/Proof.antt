@@ -31,8 +31,8 @@ flip-bits-requires c κs = subst₂ (λ (s t : List ℕ). All (λ (q : ℕ). q <
 returns : tie.Need-returns
 returns c = c.before.before.flip-bits.ensures ∙ ap₂ flips c.before.before.before.before.before.before.before.before.before.copy-to.ensures (held c.before.before.before.before.before)
 
-pub mend-spec : {M : Type 1} → statement M
-mend-spec =
+pub mend_spec : {M : Type 1} → statement M
+mend_spec =
     tie.close
     (tie.spec
     (λ c κs. search rules)

@@ -64,8 +64,8 @@ returns-2 c =
     w.before.remainder_of.ensures (check-kept w) (rw (as_long (entry w).requires.1) at t.tally-all.ensures) in
     rw (← decided t.before.before, t.before.if1.false) (c.by-tally.ensures kept tallied)
 
-pub settle-spec : {M : Type 1} → statement M
-settle-spec =
+pub settle_spec : {M : Type 1} → statement M
+settle_spec =
     tie.close
     (tie.spec
     (λ c κs. search rules)

@@ -13,5 +13,5 @@ returns c =
     or_eqb_zero c.before.wrong-steps.result c.wrong-firsts.result
     ∙ ap₂ (λ (a b : Bool). a && b) c.before.wrong-steps.ensures c.wrong-firsts.ensures
 
-pub verify-spec : {M : Type 1} → statement M
-verify-spec = tie.close (tie.spec (λ c κs. search rules) (λ c κs. search rules) returns)
+pub verify_spec : {M : Type 1} → statement M
+verify_spec = tie.close (tie.spec (λ c κs. search rules) (λ c κs. search rules) returns)

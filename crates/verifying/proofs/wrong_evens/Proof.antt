@@ -35,8 +35,8 @@ returns c =
     let l = c.before.before.before.args.firsts.now in
     gathered_all (λ j. get_or l (j * 2) 0 ≡ later (get_or l j 0)) c.before.loop.k (length l / 2) c.before.loop.wrong (omega arith) c.before.loop.invariant.1
 
-pub wrong-evens-spec : {M : Type 1} → statement M
-wrong-evens-spec =
+pub wrong_evens_spec : {M : Type 1} → statement M
+wrong_evens_spec =
     tie.close
     (tie.spec
     invariant-loop

@@ -33,6 +33,6 @@ returns c =
     (λ z. let t = two.0 (all.0 z).0 in rules.1 (even.0 t.0, odd.0 t.1, (all.0 z).1))
     (λ h. let r = rules.0 h in all.1 (two.1 (even.1 r.0, odd.1 r.1), r.2))
 
-pub wrong-firsts-spec : {M : Type 1} → statement M
-wrong-firsts-spec =
+pub wrong_firsts_spec : {M : Type 1} → statement M
+wrong_firsts_spec =
     tie.close (tie.spec (λ c κs. search rules) (λ c κs. search rules) shared-slice-read-result returns)

@@ -61,8 +61,8 @@ returns c =
     let l = e.args.firsts.now in
     gathered_all (λ j. 1 ≤ j → get_or l (j * 2 + 1) 0 ≡ later (get_or l (bit_xor j (e.args.g.coefficients / 2)) 0)) c.before.loop.k (length l / 2) c.before.loop.wrong (omega arith) c.before.loop.invariant.2
 
-pub wrong-odds-spec : {M : Type 1} → statement M
-wrong-odds-spec =
+pub wrong_odds_spec : {M : Type 1} → statement M
+wrong_odds_spec =
     tie.close
     (tie.spec
     invariant-loop

@@ -53,8 +53,8 @@ returns c =
     let rule = step_rule n g e.requires.fit.divisor (fit_small e.args.g e.requires.fit).positive e.requires.fit.most l e.requires.full in
     zero_same c.before.loop.wrong l (step_table n g) (λ z. rule.0 (all.0 z)) (λ h. all.1 (rule.1 h))
 
-pub wrong-steps-spec : {M : Type 1} → statement M
-wrong-steps-spec =
+pub wrong_steps_spec : {M : Type 1} → statement M
+wrong_steps_spec =
     tie.close
     (tie.spec
     invariant-loop

@@ -42,7 +42,7 @@ returns-2 c =
       less = set-small c;
     }
 
-pub change-of-spec : {M : Type 1} → statement M
-change-of-spec =
+pub change_of_spec : {M : Type 1} → statement M
+change_of_spec =
     tie.close
     (tie.spec (λ c κs. search rules) returns (λ c κs. search rules) sub-plus mul-plus mul-minus returns-2)

@@ -11,5 +11,5 @@ returns c = sym (multiple_zero _ (omega arith))
 returns-2 : tie.Need-returns-2
 returns-2 c = sym (multiple_positive _ (omega arith))
 
-pub decide-spec : {M : Type 1} → statement M
-decide-spec = tie.close (tie.spec returns returns-2)
+pub decide_spec : {M : Type 1} → statement M
+decide_spec = tie.close (tie.spec returns returns-2)

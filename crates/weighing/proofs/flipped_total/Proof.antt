@@ -119,8 +119,8 @@ sub-result c = omega (arith, weighed c)
 returns : tie.Need-returns invariant-loop decreases-loop
 returns c = omega (arith, weighed c)
 
-pub flipped-total-spec : {M : Type 1} → statement M
-flipped-total-spec =
+pub flipped_total_spec : {M : Type 1} → statement M
+flipped_total_spec =
     tie.close
     (tie.spec
     invariant-loop

@@ -17,5 +17,5 @@ returns-2 : tie.Need-returns-2
 unfolding field_of
 returns-2 c = c.word_at.ensures.0 ∙ sym (some_field _ _ (λ e. omega (arith, e, c.before.if1.false)))
 
-pub number-in-field-spec : {M : Type 1} → statement M
-number-in-field-spec = tie.close (tie.spec returns word-at-requires (λ c. search rules) returns-2)
+pub number_in_field_spec : {M : Type 1} → statement M
+number_in_field_spec = tie.close (tie.spec returns word-at-requires (λ c. search rules) returns-2)

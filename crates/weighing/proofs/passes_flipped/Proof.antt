@@ -56,7 +56,7 @@ returns-3 c =
     c.decide.ensures ∙ ap multiple t.flipped-total2.ensures
     ∙ sym (passes-total s.args.w.check (flips p q) (some f.before) (λ e. omega (arith, e, in_field f, t.before.if2.false)) (flips_bytes p q (ascending_all s.pre.1) s.pre.0.summed.bytes))
 
-pub passes-flipped-spec : {M : Type 1} → statement M
-passes-flipped-spec =
+pub passes_flipped_spec : {M : Type 1} → statement M
+passes_flipped_spec =
     tie.close
     (tie.spec returns add-flipped-total flipped-total-requires returns-2 flipped-total-requires-2 (λ c κs. search rules) returns-3)

@@ -15,6 +15,6 @@ returns c =
     let s = c.before.before.before in
     c.passes-flipped.ensures ∙ ap (passes s.args.w.check) (flips_nil s.args.packet.now)
 
-pub passes-received-spec : {M : Type 1} → statement M
-passes-received-spec =
+pub passes_received_spec : {M : Type 1} → statement M
+passes_received_spec =
     tie.close (tie.spec (λ c. search rules) passes-flipped-requires returns)

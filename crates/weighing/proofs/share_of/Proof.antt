@@ -19,5 +19,5 @@ returns-4 c =
     let odd = c.if3.false in
     (sym (share_within _ _ _ c.before.before.if1.false c.before.if2.false ∙ word_weight_odd _ (omega arith)), omega arith)
 
-pub share-of-spec : {M : Type 1} → statement M
-share-of-spec = tie.close (tie.spec returns returns-2 returns-3 returns-4)
+pub share_of_spec : {M : Type 1} → statement M
+share_of_spec = tie.close (tie.spec returns returns-2 returns-3 returns-4)

@@ -24,8 +24,8 @@ loop-again c =
 returns : tie.Need-returns invariant-loop decreases-loop
 returns c = omega (arith, total_past c.before.before.before.args.s.now c.before.loop.i c.loop-test.false)
 
-pub total-of-spec : {M : Type 1} → statement M
-total-of-spec =
+pub total_of_spec : {M : Type 1} → statement M
+total_of_spec =
     tie.close
     (tie.spec
     invariant-loop

@@ -16,7 +16,7 @@ returns c =
     let k = c.before.before.before.before.args.check in
     ap₂ (λ (t f : ℕ). record { check = k; total = t; in_field = f }) c.before.total_of.ensures c.number-in-field.ensures
 
-pub weigh-spec : {M : Type 1} → statement M
-weigh-spec =
+pub weigh_spec : {M : Type 1} → statement M
+weigh_spec =
     tie.close
     (tie.spec (λ c. search rules) (λ c. search rules) (λ c. search rules) (λ c κs. search rules) number-in-field-requires returns)

@@ -18,6 +18,6 @@ returns c =
     let b : r * 2 ^ (p % 8) ≤ 256 * 2 ^ 7 = mul-le-mul c.share-of.ensures.1 (pow_mono {i = p % 8} {j = 7} (omega arith)) in
     (e ∙ ap (λ (x : ℕ). x * 2 ^ (p % 8)) c.share-of.ensures.0, omega (arith, e, b))
 
-pub weight-of-spec : {M : Type 1} → statement M
-weight-of-spec =
+pub weight_of_spec : {M : Type 1} → statement M
+weight_of_spec =
     tie.close (tie.spec (λ c. search rules) (λ c. search rules) (λ c κs. search rules) (λ c. search rules) returns)

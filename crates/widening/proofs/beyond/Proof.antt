@@ -73,8 +73,8 @@ returns-3 c power t =
     found_wider power s.args.u (cut q s.requires.2 s.requires.1) two (rw c.before.before.before.before.before.before.before.before.before.if1.false at (m.ensures power t)) _ _ (omega arith) (omega arith)
     (rw (c.before.before.before.before.if2.false, m.auto.1.1.1.1.0) at (o.ensures power t)) _ (omega arith) w.result w.new.1.1.1.1.1.0 (rw kept at (w.ensures power t))
 
-pub beyond-spec : {M : Type 1} → statement M
-beyond-spec =
+pub beyond_spec : {M : Type 1} → statement M
+beyond_spec =
     tie.close
     (tie.spec
     (λ c. search rules)

@@ -22,8 +22,8 @@ returns-2 c power t =
     let p = c.before.before.place in
     few_finds power (length s.args.pow.now) (length s.args.pos.now) s.args.u (omega (arith, c.before.before.before.before.if1.false)) p.result p.new.1.1.1.1.1.0 (p.ensures power t)
 
-pub first-of-count-spec : {M : Type 1} → statement M
-first-of-count-spec =
+pub first_of_count_spec : {M : Type 1} → statement M
+first_of_count_spec =
     tie.close
     (tie.spec
     from-span-requires

@@ -85,8 +85,8 @@ returns-2 c power t =
     c.before.loop.invariant.2 power t false c.before.loop.pos
     (wide_past power (length s.args.pow.now) (length s.args.pos.now - 2) s.args.u c.before.loop.d (omega arith))
 
-pub from-span-spec : {M : Type 1} → statement M
-from-span-spec =
+pub from_span_spec : {M : Type 1} → statement M
+from_span_spec =
     tie.close
     (tie.spec
     invariant-loop

@@ -15,8 +15,8 @@ returns c power t =
 beyond-requires : tie.Need-beyond-requires
 beyond-requires c κs = let s = c.before.before.before.before.before in (s.requires.0, omega (arith, c.before.if1.false), s.requires.1)
 
-pub next-of-count-spec : {M : Type 1} → statement M
-next-of-count-spec =
+pub next_of_count_spec : {M : Type 1} → statement M
+next_of_count_spec =
     tie.close
     (tie.spec
     (λ c κs. search rules)

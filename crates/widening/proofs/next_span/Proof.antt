@@ -60,8 +60,8 @@ returns-3 c =
           rw e (pairs_spanless power (length s.args.pow.now) s.args.u s.args.span i.best i.a (omega arith) (i.invariant.4 power t)),
     )
 
-pub next-span-spec : {M : Type 1} → statement M
-next-span-spec =
+pub next_span_spec : {M : Type 1} → statement M
+next_span_spec =
     tie.close
     (tie.spec
     invariant-loop
