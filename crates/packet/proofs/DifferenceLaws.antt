@@ -2,7 +2,7 @@
 -- on differ by a polynomial of smaller degree.
 use mathlib.Core.Path.{◌≡◌, refl, sym, ap, ap₂, ◌∙◌}
 use mathlib.Core.List.{List, ◌∷◌}
-use Prim.Native.Nat.{ℕ, zero, suc, ◌+◌, ◌-◌, ◌*◌, ◌/◌, ◌%◌, ◌^◌, ◌<◌, ◌≤◌}
+use Prim.Native.Nat.{ℕ, zero, suc, ◌+◌, ◌*◌, ◌/◌, ◌%◌, ◌^◌, ◌<◌, ◌≤◌}
 use native.Mathlib.Omega.{arith}
 use native.Mathlib.Nat.{mod-eq_of_lt, mod-one, div-one, div_self, zero-div, mul-one, zero-mul, add-mul, mul_assoc}
 use native.Mathlib.Numerals.{add-one}
@@ -181,7 +181,7 @@ flips_differ s ps bs h =
 
 -- ---- packets that agree from position n on
 
-powers_lt : {ps : List ℕ} (n : ℕ) → All (λ (p : ℕ). p < n) ps → powers ps < 2 ^ n
+powers_lt : (n : ℕ) {ps : List ℕ} → All (λ (p : ℕ). p < n) ps → powers ps < 2 ^ n
 unfolding powers
 powers_lt n none = pow_pos n
 powers_lt n (each {x = p} {xs = ps} h hs) = xor_lt n (2 ^ p) (powers ps) (pow-lt {i = p} {j = n} h) (powers_lt n hs)
