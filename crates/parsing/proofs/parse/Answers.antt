@@ -1,6 +1,5 @@
 -- `parse` reads number by number. Invariant: what is stored, with the numbers still to be read, are all the numbers of the
 -- line, and the line is whole exactly where the rest of it is.
-use borrow.Author.Rules.{rules}
 use native.Mathlib.Omega.{arith}
 use native.Mathlib.Numerals.{add-one}
 use mathlib.Core.Path.{◌≡◌, refl, sym, ap, ◌∙◌}
@@ -15,14 +14,8 @@ use Rattle.base.proofs.Cases.{by_order}
 use Rattle.parsing.specs.Input.{closing}
 use Rattle.parsing.specs.Parsing.{numeral, missing, read, numbers_in, whole_line}
 use Rattle.parsing.proofs.InputLaws.{found_number, found_missing, numbers_found, numbers_missing, line_found, line_missing}
-use Rattle.parsing.proofs.parse.Statement.{statement}
-use Rattle.parsing.proofs.parse.Tie as tie
-
-record Read (input out₀ out : List ℕ) (at i : ℕ) : Type 0 where
-  size : length out ≡ length out₀
-  within : i ≤ length out₀
-  numbers : sets out i (numbers_in (length out₀ - i) (drop at input)) ≡ sets out₀ 0 (numbers_in (length out₀) input)
-  whole : whole_line (length out₀ - i) (drop at input) ≡ whole_line (length out₀) input
+use Rattle.parsing.proofs.parse.Invariants.{Read}
+use Rattle.parsing.proofs.parse.Goals as goal
 
 module _ (input out₀ out : List ℕ) (at i : ℕ) (r : Read input out₀ out at i) where
   -- a number more is stored
@@ -64,57 +57,27 @@ module _ (input out₀ out : List ℕ) (at i : ℕ) (r : Read input out₀ out a
           (λ l. rw (lt-leb (length input) at l, drop-cons input at 0 l))
           (λ l. rw (le-leb (length input) at l, drop_of_length-le input l))
 
-abbrev invariant-loop : tie.invariant-loop
-invariant-loop input out₀ at₀ i₀ out at i = Read input out₀ out at i
-
-abbrev decreases-loop : tie.decreases-loop
-decreases-loop input out₀ at₀ i₀ out at i = length out₀ - i
-
-loop-holds : tie.Need-loop-init invariant-loop decreases-loop
-loop-holds c =
-    let a = c.before.before.args in
+pub loop-i-init : goal.loop-i-init
+loop-i-init c =
+    let a = c.args in
     let n : length a.out.now - 0 ≡ length a.out.now = omega arith in
     record { size = refl; within = omega arith; numbers = rw n; whole = rw n }
 
-returns : tie.Need-returns invariant-loop decreases-loop
+pub returns-in_default : goal.returns-in_default
+returns-in_default c =
+    let a = c.args in
+    let m = misses a.input.now a.out.now c.loop-i.out c.loop-i.at c.loop-i.i c.loop-i.invariant (omega arith)
+    (rw c.closing_byte-close.ensures at (found_missing a.input.now c.number_at.ensures c.in_default.is)) in
+    record { answer = m.0; numbers = m.1 }
+
+pub loop-i-preserved : goal.loop-i-preserved
+loop-i-preserved c =
+    let a = c.args in
+    stores a.input.now a.out.now c.loop-i.out c.loop-i.at c.loop-i.i c.loop-i.invariant _ _ (omega arith)
+    (rw c.closing_byte-close.ensures at (found_number a.input.now c.number_at.ensures c.in-Number.is))
+
+pub returns : goal.returns
 returns c =
-    let p = c.before.before.before.before.before in
-    let a = p.before.before.before.args in
-    misses a.input.now a.out.now p.loop.out p.loop.at p.loop.i p.loop.invariant (omega arith)
-    (rw c.before.before.before.closing-byte.ensures at (found_missing a.input.now c.before.before.number_at.ensures c.enum_told.given.1))
-
-loop-again : tie.Need-loop-preserved invariant-loop decreases-loop
-loop-again c =
-    let p = c.before.before.before.before.before.before in
-    let a = p.before.before.before.args in
-    stores a.input.now a.out.now p.loop.out p.loop.at p.loop.i p.loop.invariant _ _ (omega arith)
-    (rw c.before.before.before.before.closing-byte.ensures at (found_number a.input.now c.before.before.before.number_at.ensures c.before.value.given.1))
-
-returns-2 : tie.Need-returns-2 invariant-loop decreases-loop
-returns-2 c =
-    let p = c.before in
-    let a = p.before.before.before.args in
-    ends a.input.now a.out.now p.loop.out p.loop.at p.loop.i p.loop.invariant (omega arith)
-
-pub parse_spec : {M : Type 1} → statement M
-parse_spec =
-    tie.close
-    (tie.spec
-    invariant-loop
-    decreases-loop
-    loop-holds
-    (λ c. search rules)
-    (λ c. search rules)
-    (λ c κs. search rules)
-    (λ c κs. search rules)
-    (λ c. search rules)
-    (λ c. search rules)
-    (λ c. search rules)
-    returns
-    (λ c. search rules)
-    (λ c. search rules)
-    (λ c. search rules)
-    (λ c. search rules)
-    loop-again
-    (λ c. search rules)
-    returns-2)
+    let a = c.args in
+    let m = ends a.input.now a.out.now c.loop-i.out c.loop-i.at c.loop-i.i c.loop-i.invariant (omega arith) in
+    record { answer = m.0; numbers = m.1 }
