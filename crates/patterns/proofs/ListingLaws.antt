@@ -2,7 +2,7 @@
 -- when it is ascending, below l, of at most so many positions and of the syndrome; and the list ascends in the order.
 -- Both are proved for any test in the syndrome's place, so the generator is never looked into.
 use mathlib.Core.Path.{◌≡◌, refl, sym, ap}
-use mathlib.Core.Bool.{Bool, true, false, true≢false}
+use mathlib.Core.Bool.{Bool, true, true≢false}
 use mathlib.Core.Logic.{⊎_elim, ◌↔◌}
 use mathlib.Core.List.{List, [], ◌∷◌, ◌++◌, map}
 use Prim.Native.Nat.{ℕ, zero, suc, ◌+◌, ◌≤◌}
@@ -15,7 +15,7 @@ use Rattle.base.proofs.Cases.{by_test, by_order}
 use Rattle.base.proofs.ListLaws.{in_nothing, ascending_from}
 use Rattle.patterns.specs.Order.{before}
 use Rattle.patterns.specs.StrictOrder.{Sorted}
-use Rattle.patterns.specs.Listing.{ascending, syndrome, choose, up_to, sift, in_order, listing}
+use Rattle.patterns.specs.Listing.{ascending, syndrome, choose, up_to, sift, listing}
 use Rattle.patterns.proofs.OrderLaws.{before_strict_total}
 use Rattle.patterns.proofs.MemberLaws.{in_left, in_right, in_either, in_map, map_in}
 use Rattle.patterns.proofs.SiftLaws.{sift_in, in_sift}

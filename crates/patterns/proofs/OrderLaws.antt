@@ -4,10 +4,9 @@ use mathlib.Core.Bool.{Bool, true, false, true≢false}
 use mathlib.Core.List.{List, [], ◌∷◌}
 use Prim.Native.Nat.{ℕ, ◌<◌}
 use native.Mathlib.Omega.{arith}
-use borrow.Author.Tests.{lt-ltb, le-ltb, eq-eqb, ne_eqb, ltb-true, eqb-true}
-use lib.Dec.{eqb, ltb}
+use borrow.Author.Tests.{lt-ltb, le-ltb, eq-eqb, ne_eqb}
 use lib.ListN.{length}
-use Rattle.base.proofs.Cases.{by_test, by_order, by_equal}
+use Rattle.base.proofs.Cases.{by_order, by_equal}
 use Rattle.patterns.specs.Order.{keyed, span, lower, before}
 use Rattle.patterns.specs.StrictOrder.{Trichotomy, precedes, equals, succeeds, StrictTotal}
 

@@ -1,7 +1,7 @@
 -- Lists that ascend in an order: how they are joined, mapped and sifted, that nothing stands twice in them, that their
 -- members alone decide them, and what follows a member. All for any order that is irreflexive and transitive. Then lists put in
 -- an order, for any strict total one.
-use mathlib.Core.Path.{◌≡◌, refl, sym, ap, ◌∙◌}
+use mathlib.Core.Path.{◌≡◌, refl, sym, ap, subst, ◌∙◌}
 use mathlib.Core.Bool.{Bool, true, false, true≢false}
 use mathlib.Core.Logic.{◌⊎◌, inl, inr, ⊎_elim}
 use mathlib.Core.List.{List, [], ◌∷◌, ◌++◌, map}
@@ -11,7 +11,7 @@ use lib.ListN.{length, get_or, take}
 use Rattle.base.specs.Lists.{In, here, there}
 use Rattle.base.proofs.Cases.{by_test}
 use Rattle.patterns.specs.Listing.{sift, inserted, in_order}
-use Rattle.patterns.specs.StrictOrder.{Sorted, empty, first, Trichotomy, precedes, equals, succeeds, StrictTotal}
+use Rattle.patterns.specs.StrictOrder.{Sorted, empty, first, precedes, equals, succeeds, StrictTotal}
 use Rattle.base.proofs.ListLaws.{in_nothing, at_place}
 use Rattle.patterns.proofs.MemberLaws.{in_left, in_right, in_either, map_in}
 use Rattle.patterns.proofs.SiftLaws.{sift_skip, sift_in, sift_all, sift_none, sift-append}
@@ -135,7 +135,7 @@ module _ {A : Type 0} {R : A → A → Bool} (order : StrictTotal R) where
       let d = rw (t, sift_all P xs (λ a i. up x a t (h a i))) at e in
       let x=q : x ≡ q = cc in
       let xs=rest : xs ≡ rest = cc in
-      rw (← x=q, order.irreflexive x, ← xs=rest) (sift_all (R x) xs h))
+      subst (λ (z : A). sift (R z) (x ∷ xs) ≡ rest) x=q (rw (order.irreflexive x, ← xs=rest) (sift_all (R x) xs h)))
       (λ t.
       let d = rw t at e in
       rw (not_back x q (h q (sift_in P xs (rw d (here refl))).0)) (sorted_next P up s q rest d))

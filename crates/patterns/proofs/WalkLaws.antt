@@ -3,12 +3,12 @@
 use mathlib.Core.Path.{◌≡◌, refl, sym, ◌∙◌}
 use mathlib.Core.Bool.{Bool, true}
 use mathlib.Core.Logic.{◌↔◌}
-use mathlib.Core.List.{List, [], ◌∷◌}
+use mathlib.Core.List.{List, ◌∷◌}
 use Prim.Native.Nat.{ℕ, zero, suc, ◌+◌, ◌<◌}
 use native.Mathlib.Omega.{arith}
 use lib.Dec.{eqb}
 use lib.ListN.{length}
-use Rattle.base.specs.Lists.{In, here, there, Ascending, ends, next}
+use Rattle.base.specs.Lists.{In, Ascending, ends, next}
 use Rattle.base.proofs.ListLaws.{in_nothing}
 use Rattle.patterns.specs.Order.{lower, before}
 use Rattle.patterns.specs.StrictOrder.{Sorted, empty, first, StrictTotal}
