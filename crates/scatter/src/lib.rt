@@ -29,6 +29,7 @@ pub enum BlockAnswer {
 // The most rows, and the most columns.
 const MOST: usize = 64;
 
+#[tactic(auto, unfolding(crate::specs::Calls::unfit_side))]
 fn unfit_side(n: usize) -> bool
     ensures { result ≡ unfit_side n }
 {
@@ -42,6 +43,7 @@ fn unfit_side(n: usize) -> bool
 }
 
 // Condition 12.
+#[tactic(auto, unfolding(crate::specs::Calls::unfit_shape))]
 fn unfit_shape(rows: usize, columns: usize) -> bool
     ensures { result ≡ unfit_shape rows columns }
 {
@@ -52,6 +54,7 @@ fn unfit_shape(rows: usize, columns: usize) -> bool
 }
 
 // Condition 13, of a shape that was judged: its product fits.
+#[tactic(auto, unfolding(crate::specs::Calls::unfit_lengths))]
 fn unfit_lengths(rows: usize, columns: usize, input: usize, output: usize) -> bool
     requires { (rows ≤ most_side) × (columns ≤ most_side) }
     ensures { result ≡ unfit_lengths rows columns input output }
