@@ -8,7 +8,7 @@ use native.Mathlib.Omega.{arith}
 use native.Mathlib.Nat.{add_assoc, add-zero, zero-add}
 use lib.ListN.{length, take, drop, get_or, length-drop}
 use lib.Seq.{drop-drop, take-add, take_all, get_or-drop}
-use Rattle.base.specs.Lists.{In, here}
+use Rattle.base.specs.Lists.{In}
 use Rattle.base.specs.Outcome.{Outcome, refused, accepted, Condition, judge}
 use Rattle.base.proofs.Cases.{by_order}
 use Rattle.base.proofs.JudgeLaws.{judge_accepted, judge_value}
