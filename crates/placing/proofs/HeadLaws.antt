@@ -15,7 +15,7 @@ use Rattle.base.proofs.XorLaws.{xor-ac, xor_cancel}
 use Rattle.patterns.specs.Order.{lower}
 use Rattle.base.specs.Lists.{Ascending, next}
 use Rattle.patterns.specs.Listing.{choose, sift}
-use Rattle.patterns.proofs.SiftLaws.{sift-append, sift-map, sift_none, sift-same, sift_comm}
+use Rattle.patterns.proofs.SiftLaws.{sift-append, sift-map, sift-same, sift_comm}
 use Rattle.placing.specs.Placing.{xor_all, summing, Head, headless, starts, head_of, first_from, first_after, answer}
 use Rattle.placing.proofs.ChooseLaws.{choose_zero, choose_past, choose-step, choose_after}
 
