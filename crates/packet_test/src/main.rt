@@ -5,7 +5,7 @@
 #![tactic(auto)]
 
 use crc::{RemainderAnswer, SealAnswer};
-use libc::STDIN_FILENO;
+use std::io;
 
 // The numbers that a CRC is taken by.
 #[derive(Clone, Copy)]
@@ -15,37 +15,43 @@ struct Setting {
     xorout: u64,
 }
 
-fn print_remainder(set: Setting, packet: &[u8], separator: u8) {
+fn print_remainder(rt: &impl Print, set: Setting, packet: &[u8], separator: u8) -> io::Result<()> {
     match crc::remainder(set.generator, set.init, set.xorout, packet) {
-        RemainderAnswer::Remainder(r) => testkit::print_number(r, separator),
-        RemainderAnswer::Refused(r) => testkit::print_refused(r, separator),
+        RemainderAnswer::Remainder(r) => testkit::print_number(rt, r, separator),
+        RemainderAnswer::Refused(r) => testkit::print_refused(rt, r, separator),
     }
 }
 
-fn print_seal(set: Setting, packet: &mut [u8]) {
+fn print_seal(rt: &impl Print, set: Setting, packet: &mut [u8]) -> io::Result<()> {
     match crc::seal(set.generator, set.init, set.xorout, packet) {
-        SealAnswer::Sealed => testkit::print(b"sealed "),
-        SealAnswer::Refused(r) => testkit::print_refused(r, b' '),
+        SealAnswer::Sealed => testkit::print(rt, b"sealed "),
+        SealAnswer::Refused(r) => testkit::print_refused(rt, r, b' '),
     }
 }
 
 // A line for a packet: its remainder, the answer of seal, the bytes' hash and the remainder after it.
-fn ask(set: Setting, packet: &mut [u8]) {
-    print_remainder(set, packet, b' ');
-    print_seal(set, packet);
-    testkit::print_number(testkit::hash(packet), b' ');
-    print_remainder(set, packet, b'\n');
+fn ask(rt: &impl Print, set: Setting, packet: &mut [u8]) -> io::Result<()> {
+    print_remainder(rt, set, packet, b' ')?;
+    print_seal(rt, set, packet)?;
+    testkit::print_number(rt, testkit::hash(packet), b' ')?;
+    print_remainder(rt, set, packet, b'\n')
 }
 
 // One case, its packet in a lent slice.
-fn answer(text: &[u8], at: usize, set: Setting, packet: &mut [u8]) -> usize {
+fn answer(
+    rt: &impl Print,
+    text: &[u8],
+    at: usize,
+    set: Setting,
+    packet: &mut [u8],
+) -> io::Result<usize> {
     let next = testkit::read_packet(text, at, packet);
-    ask(set, packet);
-    next
+    ask(rt, set, packet)?;
+    Ok(next)
 }
 
 // One case from `at` on; the answer is the place behind it.
-fn case(text: &[u8], at: usize) -> usize {
+fn case(rt: &impl Print, text: &[u8], at: usize) -> io::Result<usize> {
     let generator = testkit::wide(text, at);
     let init = testkit::wide(text, generator.next);
     let xorout = testkit::wide(text, init.next);
@@ -56,22 +62,20 @@ fn case(text: &[u8], at: usize) -> usize {
         xorout: xorout.value,
     };
     let mut space = [0u8; 1024];
-    let n = io::count(len.value as isize, &space);
-    answer(text, len.next, set, &mut space[..n])
+    let n = testkit::least(len.value as usize, space.len());
+    answer(rt, text, len.next, set, &mut space[..n])
 }
 
-fn cases(text: &[u8]) {
+fn cases(rt: &impl Print, text: &[u8]) -> io::Result<()> {
     let count = testkit::number(text, 0);
     let mut at = count.next;
-    let mut left = count.value;
-    while 0 < left {
-        at = case(text, at);
-        left -= 1;
+    for _ in 0..count.value {
+        at = case(rt, text, at)?;
     }
+    Ok(())
 }
 
-fn main() {
-    let mut text = [0u8; 131072];
-    let n = io::read_full(STDIN_FILENO, &mut text);
-    cases(&text[..n]);
+fn main(rt: HostRuntime) -> io::Result<()> {
+    let text = testkit::read_input(&rt, 131072)?;
+    cases(&rt, text.as_slice())
 }

@@ -7,10 +7,10 @@
 // syndromes are given by their high and low 32 bits.
 #![tactic(auto)]
 
-use libc::STDIN_FILENO;
 use pages::PageAnswer;
 use paging::PageResult;
 use patterns::{Mark, Pattern};
+use std::io;
 
 // What every call of a sequence is given.
 #[derive(Clone, Copy)]
@@ -89,14 +89,14 @@ fn is_ended(mark: Mark) -> bool {
     }
 }
 
-fn print_mark(mark: Mark) {
+fn print_mark(rt: &impl Print, mark: Mark) -> io::Result<()> {
     match mark {
-        Mark::Start => testkit::print(b"start\n"),
-        Mark::Ended => testkit::print(b"ended\n"),
+        Mark::Start => testkit::print(rt, b"start\n"),
+        Mark::Ended => testkit::print(rt, b"ended\n"),
         Mark::After(p) => {
-            testkit::print(b"after ");
-            testkit::print_pattern(p);
-            testkit::print(b"\n");
+            testkit::print(rt, b"after ")?;
+            testkit::print_pattern(rt, p)?;
+            testkit::print(rt, b"\n")
         }
     }
 }
@@ -192,14 +192,12 @@ fn sequence(
     space: &mut [u8],
 ) -> Run {
     let mut run = begun;
-    let mut i: u64 = 0;
-    while i < plan.most {
+    for i in 0..plan.most {
         run = call_in(set, room_at(plan, i), steps, firsts, run, space);
         let mark = run.mark;
         if is_ended(mark) {
             return over(run);
         }
-        i += 1;
     }
     run
 }
@@ -221,7 +219,7 @@ fn with_syndrome(set: Setting, more: u64) -> Setting {
         generator: set.generator,
         bits: set.bits,
         limit: set.limit,
-        syndrome: std::num::wrapping_add_u64(set.syndrome, more),
+        syndrome: set.syndrome.wrapping_add(more),
     }
 }
 
@@ -244,8 +242,7 @@ fn sequences(
         refusals: 0,
         ended: 0,
     };
-    let mut k: u64 = 0;
-    while k < syndromes {
+    for k in 0..syndromes {
         run = sequence(
             with_syndrome(set, k),
             plan,
@@ -254,24 +251,30 @@ fn sequences(
             from_mark(run, mark),
             space,
         );
-        k += 1;
     }
     run
 }
 
-fn print_run(run: Run) {
-    testkit::print_number(run.used, b' ');
-    testkit::print_number(run.beyond, b' ');
-    testkit::print_number(run.records, b' ');
-    testkit::print_number(run.calls, b' ');
-    testkit::print_number(run.refusals, b' ');
-    testkit::print_number(run.ended, b' ');
+fn print_run(rt: &impl Print, run: Run) -> io::Result<()> {
+    testkit::print_number(rt, run.used, b' ')?;
+    testkit::print_number(rt, run.beyond, b' ')?;
+    testkit::print_number(rt, run.records, b' ')?;
+    testkit::print_number(rt, run.calls, b' ')?;
+    testkit::print_number(rt, run.refusals, b' ')?;
+    testkit::print_number(rt, run.ended, b' ')?;
     let mark = run.mark;
-    print_mark(mark);
+    print_mark(rt, mark)
 }
 
 // One case from `at` on; the answer is the place behind it.
-fn case(text: &[u8], at: usize, steps: &[u16], firsts: &[u16], space: &mut [u8]) -> usize {
+fn case(
+    rt: &impl Print,
+    text: &[u8],
+    at: usize,
+    steps: &[u16],
+    firsts: &[u16],
+    space: &mut [u8],
+) -> io::Result<usize> {
     let generator = testkit::wide(text, at);
     let bits = testkit::wide(text, generator.next);
     let limit = testkit::wide(text, bits.next);
@@ -293,36 +296,46 @@ fn case(text: &[u8], at: usize, steps: &[u16], firsts: &[u16], space: &mut [u8])
         most: most.value,
     };
     let mark = first.mark;
-    print_run(sequences(set, syndromes.value, mark, plan, steps, firsts, space));
-    most.next
+    print_run(
+        rt,
+        sequences(set, syndromes.value, mark, plan, steps, firsts, space),
+    )?;
+    Ok(most.next)
 }
 
 // So many cases from `at` on; the answer is the place behind them.
 fn cases(
+    rt: &impl Print,
     text: &[u8],
     at: usize,
     count: u64,
     steps: &[u16],
     firsts: &[u16],
     space: &mut [u8],
-) -> usize {
+) -> io::Result<usize> {
     let mut next = at;
-    let mut left = count;
-    while 0 < left {
-        next = case(text, next, steps, firsts, space);
-        left -= 1;
+    for _ in 0..count {
+        next = case(rt, text, next, steps, firsts, space)?;
     }
-    next
+    Ok(next)
 }
 
 // The cases of a group, with so many entries of each table.
-fn lend(text: &[u8], at: usize, steps: &[u16], firsts: &[u16], space: &mut [u8]) -> usize {
+fn lend(
+    rt: &impl Print,
+    text: &[u8],
+    at: usize,
+    steps: &[u16],
+    firsts: &[u16],
+    space: &mut [u8],
+) -> io::Result<usize> {
     let s = testkit::number(text, at);
     let f = testkit::number(text, s.next);
     let count = testkit::number(text, f.next);
     let n = testkit::least(s.value as usize, steps.len());
     let m = testkit::least(f.value as usize, firsts.len());
     cases(
+        rt,
         text,
         count.next,
         count.value,
@@ -333,30 +346,41 @@ fn lend(text: &[u8], at: usize, steps: &[u16], firsts: &[u16], space: &mut [u8])
 }
 
 // One group from `at` on; the answer is the place behind it.
-fn group(text: &[u8], at: usize, steps: &mut [u16], firsts: &mut [u16], space: &mut [u8]) -> usize {
+fn group(
+    rt: &impl Print,
+    text: &[u8],
+    at: usize,
+    steps: &mut [u16],
+    firsts: &mut [u16],
+    space: &mut [u8],
+) -> io::Result<usize> {
     let next = testkit::prepare(text, at, steps, firsts);
-    lend(text, next, steps, firsts, space)
+    lend(rt, text, next, steps, firsts, space)
 }
 
-fn groups(text: &[u8], steps: &mut [u16], firsts: &mut [u16], space: &mut [u8]) {
+fn groups(
+    rt: &impl Print,
+    text: &[u8],
+    steps: &mut [u16],
+    firsts: &mut [u16],
+    space: &mut [u8],
+) -> io::Result<()> {
     let count = testkit::number(text, 0);
     let mut at = count.next;
-    let mut left = count.value;
-    while 0 < left {
-        at = group(text, at, steps, firsts, space);
-        left -= 1;
+    for _ in 0..count.value {
+        at = group(rt, text, at, steps, firsts, space)?;
     }
+    Ok(())
 }
 
-fn answer(text: &[u8]) {
+fn answer(rt: &impl Print, text: &[u8]) -> io::Result<()> {
     let mut steps = [0u16; 65536];
     let mut firsts = [0u16; 65536];
     let mut space = [0u8; 4096];
-    groups(text, &mut steps, &mut firsts, &mut space);
+    groups(rt, text, &mut steps, &mut firsts, &mut space)
 }
 
-fn main() {
-    let mut text = io::large_buffer();
-    let n = io::read_full(STDIN_FILENO, &mut text);
-    answer(&text[..n]);
+fn main(rt: HostRuntime) -> io::Result<()> {
+    let text = testkit::read_input(&rt, 65536)?;
+    answer(&rt, text.as_slice())
 }

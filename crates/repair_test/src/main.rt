@@ -8,8 +8,8 @@
 #![tactic(auto)]
 
 use checksum::Check;
-use libc::STDIN_FILENO;
 use repair::RepairAnswer;
+use std::io;
 use verdicts::Verdict;
 
 // What every call of a case is given.
@@ -30,37 +30,44 @@ fn flip(packet: &mut [u8], p: usize) {
     }
 }
 
-fn print_verdict(verdict: Verdict) {
+fn print_verdict(rt: &impl Print, verdict: Verdict) -> io::Result<()> {
     match verdict {
-        Verdict::Intact => testkit::print(b"intact "),
+        Verdict::Intact => testkit::print(rt, b"intact "),
         Verdict::Repaired(p) => {
-            testkit::print(b"repaired ");
-            testkit::print_pattern(p);
+            testkit::print(rt, b"repaired ")?;
+            testkit::print_pattern(rt, p)
         }
         Verdict::Several(k, p) => {
-            testkit::print(b"several ");
-            testkit::print_number(k, b' ');
-            testkit::print_pattern(p);
+            testkit::print(rt, b"several ")?;
+            testkit::print_number(rt, k, b' ')?;
+            testkit::print_pattern(rt, p)
         }
-        Verdict::None => testkit::print(b"none "),
+        Verdict::None => testkit::print(rt, b"none "),
     }
 }
 
 // The length and the hash of the packet to publish from.
-fn print_published(published: &[u8]) {
-    testkit::print_number(published.len() as u64, b' ');
-    testkit::print_number(testkit::hash(published), b'\n');
+fn print_published(rt: &impl Print, published: &[u8]) -> io::Result<()> {
+    testkit::print_number(rt, published.len() as u64, b' ')?;
+    testkit::print_number(rt, testkit::hash(published), b'\n')
 }
 
 // The packet is lent to be written, though it stays: two shared slices, one of which is handed back, have no proof.
-fn print_told(verdict: Verdict, packet: &mut [u8], out: &[u8]) {
-    print_verdict(verdict);
-    testkit::print_number(testkit::hash(out), b' ');
-    print_published(repair::hand_back(packet, out, verdict));
+fn print_told(rt: &impl Print, verdict: Verdict, packet: &mut [u8], out: &[u8]) -> io::Result<()> {
+    print_verdict(rt, verdict)?;
+    testkit::print_number(rt, testkit::hash(out), b' ')?;
+    print_published(rt, repair::hand_back(packet, out, verdict))
 }
 
 // One repair call, and a line for it.
-fn ask(set: Setting, steps: &[u16], firsts: &[u16], packet: &mut [u8], out: &mut [u8]) {
+fn ask(
+    rt: &impl Print,
+    set: Setting,
+    steps: &[u16],
+    firsts: &[u16],
+    packet: &mut [u8],
+    out: &mut [u8],
+) -> io::Result<()> {
     testkit::fill(out, 1);
     let answer = repair::repair(
         set.generator,
@@ -75,29 +82,32 @@ fn ask(set: Setting, steps: &[u16], firsts: &[u16], packet: &mut [u8], out: &mut
     );
     match answer {
         RepairAnswer::Refused(r) => {
-            testkit::print_refused(r, b' ');
-            testkit::print_number(testkit::hash(out), b'\n');
+            testkit::print_refused(rt, r, b' ')?;
+            testkit::print_number(rt, testkit::hash(out), b'\n')
         }
-        RepairAnswer::Decided(verdict) => print_told(verdict, packet, out),
+        RepairAnswer::Decided(verdict) => print_told(rt, verdict, packet, out),
     }
 }
 
 // The same with one more bit flipped.
 fn ask_flipped(
+    rt: &impl Print,
     set: Setting,
     steps: &[u16],
     firsts: &[u16],
     p: usize,
     packet: &mut [u8],
     out: &mut [u8],
-) {
+) -> io::Result<()> {
     flip(packet, p);
-    ask(set, steps, firsts, packet, out);
+    ask(rt, set, steps, firsts, packet, out)?;
     flip(packet, p);
+    Ok(())
 }
 
 // A call with each of some positions flipped alone.
 fn sweep(
+    rt: &impl Print,
     set: Setting,
     steps: &[u16],
     firsts: &[u16],
@@ -105,38 +115,53 @@ fn sweep(
     count: u64,
     packet: &mut [u8],
     out: &mut [u8],
-) {
-    let mut i: u64 = 0;
-    while i < count {
-        let p = std::num::wrapping_add_u64(first, i) as usize;
-        ask_flipped(set, steps, firsts, p, packet, out);
-        i += 1;
+) -> io::Result<()> {
+    for i in 0..count {
+        let p = first.wrapping_add(i) as usize;
+        ask_flipped(rt, set, steps, firsts, p, packet, out)?;
     }
+    Ok(())
 }
 
 // The calls of a case, its packet in a lent slice; the answer is the place behind the case.
 fn calls(
+    rt: &impl Print,
     set: Setting,
     text: &[u8],
     at: usize,
     steps: &[u16],
     firsts: &[u16],
     packet: &mut [u8],
-) -> usize {
+) -> io::Result<usize> {
     let next = testkit::read_packet(text, at, packet);
     let room = testkit::number(text, next);
     let first = testkit::number(text, room.next);
     let count = testkit::number(text, first.next);
     let mut space = [0u8; 1024];
-    let n = io::count(room.value as isize, &space);
+    let n = testkit::least(room.value as usize, space.len());
     let out = &mut space[..n];
-    ask(set, steps, firsts, packet, out);
-    sweep(set, steps, firsts, first.value, count.value, packet, out);
-    count.next
+    ask(rt, set, steps, firsts, packet, out)?;
+    sweep(
+        rt,
+        set,
+        steps,
+        firsts,
+        first.value,
+        count.value,
+        packet,
+        out,
+    )?;
+    Ok(count.next)
 }
 
 // One case from `at` on; the answer is the place behind it.
-fn case(text: &[u8], at: usize, steps: &[u16], firsts: &[u16]) -> usize {
+fn case(
+    rt: &impl Print,
+    text: &[u8],
+    at: usize,
+    steps: &[u16],
+    firsts: &[u16],
+) -> io::Result<usize> {
     let generator = testkit::wide(text, at);
     let init = testkit::wide(text, generator.next);
     let xorout = testkit::wide(text, init.next);
@@ -154,55 +179,70 @@ fn case(text: &[u8], at: usize, steps: &[u16], firsts: &[u16]) -> usize {
         limit: limit.value as usize,
     };
     let mut space = [0u8; 1024];
-    let n = io::count(len.value as isize, &space);
-    calls(set, text, len.next, steps, firsts, &mut space[..n])
+    let n = testkit::least(len.value as usize, space.len());
+    calls(rt, set, text, len.next, steps, firsts, &mut space[..n])
 }
 
 // So many cases from `at` on; the answer is the place behind them.
-fn cases(text: &[u8], at: usize, count: u64, steps: &[u16], firsts: &[u16]) -> usize {
+fn cases(
+    rt: &impl Print,
+    text: &[u8],
+    at: usize,
+    count: u64,
+    steps: &[u16],
+    firsts: &[u16],
+) -> io::Result<usize> {
     let mut next = at;
-    let mut left = count;
-    while 0 < left {
-        next = case(text, next, steps, firsts);
-        left -= 1;
+    for _ in 0..count {
+        next = case(rt, text, next, steps, firsts)?;
     }
-    next
+    Ok(next)
 }
 
 // The cases of a group, with so many entries of each table.
-fn lend(text: &[u8], at: usize, steps: &[u16], firsts: &[u16]) -> usize {
+fn lend(
+    rt: &impl Print,
+    text: &[u8],
+    at: usize,
+    steps: &[u16],
+    firsts: &[u16],
+) -> io::Result<usize> {
     let s = testkit::number(text, at);
     let f = testkit::number(text, s.next);
     let count = testkit::number(text, f.next);
     let n = testkit::least(s.value as usize, steps.len());
     let m = testkit::least(f.value as usize, firsts.len());
-    cases(text, count.next, count.value, &steps[..n], &firsts[..m])
+    cases(rt, text, count.next, count.value, &steps[..n], &firsts[..m])
 }
 
 // One group from `at` on; the answer is the place behind it.
-fn group(text: &[u8], at: usize, steps: &mut [u16], firsts: &mut [u16]) -> usize {
+fn group(
+    rt: &impl Print,
+    text: &[u8],
+    at: usize,
+    steps: &mut [u16],
+    firsts: &mut [u16],
+) -> io::Result<usize> {
     let next = testkit::prepare(text, at, steps, firsts);
-    lend(text, next, steps, firsts)
+    lend(rt, text, next, steps, firsts)
 }
 
-fn groups(text: &[u8], steps: &mut [u16], firsts: &mut [u16]) {
+fn groups(rt: &impl Print, text: &[u8], steps: &mut [u16], firsts: &mut [u16]) -> io::Result<()> {
     let count = testkit::number(text, 0);
     let mut at = count.next;
-    let mut left = count.value;
-    while 0 < left {
-        at = group(text, at, steps, firsts);
-        left -= 1;
+    for _ in 0..count.value {
+        at = group(rt, text, at, steps, firsts)?;
     }
+    Ok(())
 }
 
-fn answer(text: &[u8]) {
+fn answer(rt: &impl Print, text: &[u8]) -> io::Result<()> {
     let mut steps = [0u16; 65536];
     let mut firsts = [0u16; 65536];
-    groups(text, &mut steps, &mut firsts);
+    groups(rt, text, &mut steps, &mut firsts)
 }
 
-fn main() {
-    let mut text = [0u8; 196608];
-    let n = io::read_full(STDIN_FILENO, &mut text);
-    answer(&text[..n]);
+fn main(rt: HostRuntime) -> io::Result<()> {
+    let text = testkit::read_input(&rt, 196608)?;
+    answer(&rt, text.as_slice())
 }

@@ -4,29 +4,41 @@
 // many the output; the seed of the input's bytes.
 #![tactic(auto)]
 
-use libc::STDIN_FILENO;
 use scatter::BlockAnswer;
+use std::io;
 
 // The number of a refusal, or 0, and the hash of what is in the output.
-fn show(answer: BlockAnswer, output: &[u8]) {
+fn show(rt: &impl Print, answer: BlockAnswer, output: &[u8]) -> io::Result<()> {
     match answer {
-        BlockAnswer::Rearranged => testkit::print_number(0, b' '),
-        BlockAnswer::Refused(r) => testkit::print_number(base::number_of(r) as u64, b' '),
+        BlockAnswer::Rearranged => testkit::print_number(rt, 0, b' ')?,
+        BlockAnswer::Refused(r) => testkit::print_number(rt, base::number_of(r) as u64, b' ')?,
     }
-    testkit::print_number(testkit::hash(output), b' ');
+    testkit::print_number(rt, testkit::hash(output), b' ')
 }
 
 // Both ways, each into an output with the same bytes in it.
-fn both_ways(rows: usize, columns: usize, input: &[u8], output: &mut [u8]) {
+fn both_ways(
+    rt: &impl Print,
+    rows: usize,
+    columns: usize,
+    input: &[u8],
+    output: &mut [u8],
+) -> io::Result<()> {
     testkit::fill(output, 1);
-    show(scatter::scatter(rows, columns, input, output), output);
+    show(rt, scatter::scatter(rows, columns, input, output), output)?;
     testkit::fill(output, 1);
-    show(scatter::gather(rows, columns, input, output), output);
-    testkit::print(b"\n");
+    show(rt, scatter::gather(rows, columns, input, output), output)?;
+    testkit::print(rt, b"\n")
 }
 
 // One case from `at` on; the answer is the place behind it.
-fn case(text: &[u8], at: usize, input: &mut [u8], output: &mut [u8]) -> usize {
+fn case(
+    rt: &impl Print,
+    text: &[u8],
+    at: usize,
+    input: &mut [u8],
+    output: &mut [u8],
+) -> io::Result<usize> {
     let rows = testkit::wide(text, at);
     let columns = testkit::wide(text, rows.next);
     let from = testkit::number(text, columns.next);
@@ -36,33 +48,32 @@ fn case(text: &[u8], at: usize, input: &mut [u8], output: &mut [u8]) -> usize {
     let m = testkit::least(to.value as usize, output.len());
     testkit::fill(input, seed.value as u32);
     both_ways(
+        rt,
         rows.value as usize,
         columns.value as usize,
         &input[..n],
         &mut output[..m],
-    );
-    seed.next
+    )?;
+    Ok(seed.next)
 }
 
-fn cases(text: &[u8], input: &mut [u8], output: &mut [u8]) {
+fn cases(rt: &impl Print, text: &[u8], input: &mut [u8], output: &mut [u8]) -> io::Result<()> {
     let count = testkit::number(text, 0);
     let mut at = count.next;
-    let mut left = count.value;
-    while 0 < left {
-        at = case(text, at, input, output);
-        left -= 1;
+    for _ in 0..count.value {
+        at = case(rt, text, at, input, output)?;
     }
+    Ok(())
 }
 
 // Room for 65 times 65 bytes, the most that a case has.
-fn answer(text: &[u8]) {
+fn answer(rt: &impl Print, text: &[u8]) -> io::Result<()> {
     let mut input = [0u8; 4225];
     let mut output = [0u8; 4225];
-    cases(text, &mut input, &mut output);
+    cases(rt, text, &mut input, &mut output)
 }
 
-fn main() {
-    let mut text = io::large_buffer();
-    let n = io::read_full(STDIN_FILENO, &mut text);
-    answer(&text[..n]);
+fn main(rt: HostRuntime) -> io::Result<()> {
+    let text = testkit::read_input(&rt, 65536)?;
+    answer(&rt, text.as_slice())
 }

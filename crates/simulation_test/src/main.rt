@@ -7,8 +7,8 @@
 #![tactic(auto)]
 
 use checksum::Check;
-use libc::STDIN_FILENO;
 use simulation::SimulateAnswer;
+use std::io;
 
 // The most counts that are lent.
 const MOST_COUNTS: usize = 64;
@@ -32,50 +32,45 @@ fn widened(x: u32) -> u64 {
 // Numbers of the stream: each state after the seed.
 fn fill_counts(counts: &mut [u32], seed: u32) {
     let mut state = seed;
-    let mut i: usize = 0;
-    while i < counts.len() {
+    for count in counts {
         state = maker::next_state(state);
-        counts[i] = state;
-        i += 1;
+        *count = state;
     }
 }
 
 // The hash of testkit, with a number of 32 bits XORed in where that has a byte. It too can be undone.
 fn hash_counts(counts: &[u32]) -> u64 {
     let mut h = testkit::UNMIXED;
-    let mut i: usize = 0;
-    while i < counts.len() {
-        h = (h ^ counts[i] as u64) * 16777619 % 4294967296;
-        i += 1;
+    for count in counts {
+        h = (h ^ *count as u64) * 16777619 % 4294967296;
     }
     h
 }
 
 // Prints the counts, each with a blank behind it, and ends the line.
-fn print_counts(counts: &[u32]) {
-    let mut i: usize = 0;
-    while i < counts.len() {
-        testkit::print_number(widened(counts[i]), b' ');
-        i += 1;
+fn print_counts(rt: &impl Print, counts: &[u32]) -> io::Result<()> {
+    for count in counts {
+        testkit::print_number(rt, widened(*count), b' ')?;
     }
-    testkit::print(b"\n");
+    testkit::print(rt, b"\n")
 }
 
 // The hashes of packet and output.
-fn print_left(packet: &[u8], out: &[u8]) {
-    testkit::print_number(testkit::hash(packet), b' ');
-    testkit::print_number(testkit::hash(out), b' ');
+fn print_left(rt: &impl Print, packet: &[u8], out: &[u8]) -> io::Result<()> {
+    testkit::print_number(rt, testkit::hash(packet), b' ')?;
+    testkit::print_number(rt, testkit::hash(out), b' ')
 }
 
 // One simulation, and a line for it: the answer, what packet and output hold, and the counts, or their hash if it was refused.
 fn ask(
+    rt: &impl Print,
     set: Setting,
     steps: &[u16],
     firsts: &[u16],
     packet: &mut [u8],
     out: &mut [u8],
     counts: &mut [u32],
-) {
+) -> io::Result<()> {
     let answer = simulation::simulate(
         set.generator,
         set.init,
@@ -92,20 +87,21 @@ fn ask(
     );
     match answer {
         SimulateAnswer::Simulated(state) => {
-            testkit::print_number(state as u64, b' ');
-            print_left(packet, out);
-            print_counts(counts);
+            testkit::print_number(rt, state as u64, b' ')?;
+            print_left(rt, packet, out)?;
+            print_counts(rt, counts)
         }
         SimulateAnswer::Refused(r) => {
-            testkit::print_refused(r, b' ');
-            print_left(packet, out);
-            testkit::print_number(hash_counts(counts), b'\n');
+            testkit::print_refused(rt, r, b' ')?;
+            print_left(rt, packet, out)?;
+            testkit::print_number(rt, hash_counts(counts), b'\n')
         }
     }
 }
 
 // The same, with packet and counts filled from a seed before it, and the output from the state after that.
 fn ask_filled(
+    rt: &impl Print,
     set: Setting,
     seed: u32,
     steps: &[u16],
@@ -113,15 +109,16 @@ fn ask_filled(
     packet: &mut [u8],
     out: &mut [u8],
     counts: &mut [u32],
-) {
+) -> io::Result<()> {
     testkit::fill(packet, seed);
     testkit::fill(out, maker::next_state(seed));
     fill_counts(counts, seed);
-    ask(set, steps, firsts, packet, out, counts);
+    ask(rt, set, steps, firsts, packet, out, counts)
 }
 
 // The call of a case from its number of counts on, packet and output in lent slices; the answer is the place behind the case.
 fn with_counts(
+    rt: &impl Print,
     set: Setting,
     text: &[u8],
     at: usize,
@@ -129,12 +126,13 @@ fn with_counts(
     firsts: &[u16],
     packet: &mut [u8],
     out: &mut [u8],
-) -> usize {
+) -> io::Result<usize> {
     let room = testkit::number(text, at);
     let seed = testkit::number(text, room.next);
     let mut space = [0u32; MOST_COUNTS];
     let n = testkit::least(room.value as usize, MOST_COUNTS);
     ask_filled(
+        rt,
         set,
         seed.value as u32,
         steps,
@@ -142,35 +140,58 @@ fn with_counts(
         packet,
         out,
         &mut space[..n],
-    );
-    seed.next
+    )?;
+    Ok(seed.next)
 }
 
 // The same from the length of the output on.
 fn with_output(
+    rt: &impl Print,
     set: Setting,
     text: &[u8],
     at: usize,
     steps: &[u16],
     firsts: &[u16],
     packet: &mut [u8],
-) -> usize {
+) -> io::Result<usize> {
     let room = testkit::number(text, at);
     let mut space = [0u8; 1024];
-    let n = io::count(room.value as isize, &space);
-    with_counts(set, text, room.next, steps, firsts, packet, &mut space[..n])
+    let n = testkit::least(room.value as usize, space.len());
+    with_counts(
+        rt,
+        set,
+        text,
+        room.next,
+        steps,
+        firsts,
+        packet,
+        &mut space[..n],
+    )
 }
 
 // The same from the length of the packet on.
-fn with_packet(set: Setting, text: &[u8], at: usize, steps: &[u16], firsts: &[u16]) -> usize {
+fn with_packet(
+    rt: &impl Print,
+    set: Setting,
+    text: &[u8],
+    at: usize,
+    steps: &[u16],
+    firsts: &[u16],
+) -> io::Result<usize> {
     let len = testkit::number(text, at);
     let mut space = [0u8; 1024];
-    let n = io::count(len.value as isize, &space);
-    with_output(set, text, len.next, steps, firsts, &mut space[..n])
+    let n = testkit::least(len.value as usize, space.len());
+    with_output(rt, set, text, len.next, steps, firsts, &mut space[..n])
 }
 
 // One case from `at` on; the answer is the place behind it.
-fn case(text: &[u8], at: usize, steps: &[u16], firsts: &[u16]) -> usize {
+fn case(
+    rt: &impl Print,
+    text: &[u8],
+    at: usize,
+    steps: &[u16],
+    firsts: &[u16],
+) -> io::Result<usize> {
     let generator = testkit::wide(text, at);
     let init = testkit::wide(text, generator.next);
     let xorout = testkit::wide(text, init.next);
@@ -190,54 +211,69 @@ fn case(text: &[u8], at: usize, steps: &[u16], firsts: &[u16]) -> usize {
         count: count.value,
         seed: seed.value as u32,
     };
-    with_packet(set, text, seed.next, steps, firsts)
+    with_packet(rt, set, text, seed.next, steps, firsts)
 }
 
 // So many cases from `at` on; the answer is the place behind them.
-fn cases(text: &[u8], at: usize, count: u64, steps: &[u16], firsts: &[u16]) -> usize {
+fn cases(
+    rt: &impl Print,
+    text: &[u8],
+    at: usize,
+    count: u64,
+    steps: &[u16],
+    firsts: &[u16],
+) -> io::Result<usize> {
     let mut next = at;
-    let mut left = count;
-    while 0 < left {
-        next = case(text, next, steps, firsts);
-        left -= 1;
+    for _ in 0..count {
+        next = case(rt, text, next, steps, firsts)?;
     }
-    next
+    Ok(next)
 }
 
 // The cases of a group, with so many entries of each table.
-fn lend(text: &[u8], at: usize, steps: &[u16], firsts: &[u16]) -> usize {
+fn lend(
+    rt: &impl Print,
+    text: &[u8],
+    at: usize,
+    steps: &[u16],
+    firsts: &[u16],
+) -> io::Result<usize> {
     let s = testkit::number(text, at);
     let f = testkit::number(text, s.next);
     let count = testkit::number(text, f.next);
     let n = testkit::least(s.value as usize, steps.len());
     let m = testkit::least(f.value as usize, firsts.len());
-    cases(text, count.next, count.value, &steps[..n], &firsts[..m])
+    cases(rt, text, count.next, count.value, &steps[..n], &firsts[..m])
 }
 
 // One group from `at` on; the answer is the place behind it.
-fn group(text: &[u8], at: usize, steps: &mut [u16], firsts: &mut [u16]) -> usize {
+fn group(
+    rt: &impl Print,
+    text: &[u8],
+    at: usize,
+    steps: &mut [u16],
+    firsts: &mut [u16],
+) -> io::Result<usize> {
     let next = testkit::prepare(text, at, steps, firsts);
-    lend(text, next, steps, firsts)
+    lend(rt, text, next, steps, firsts)
 }
 
-fn groups(text: &[u8], steps: &mut [u16], firsts: &mut [u16]) {
+fn groups(rt: &impl Print, text: &[u8], steps: &mut [u16], firsts: &mut [u16]) -> io::Result<()> {
     let count = testkit::number(text, 0);
     let mut at = count.next;
-    let mut left = count.value;
-    while 0 < left {
-        at = group(text, at, steps, firsts);
-        left -= 1;
+    for _ in 0..count.value {
+        at = group(rt, text, at, steps, firsts)?;
     }
+    Ok(())
 }
 
-fn answer(text: &[u8]) {
+fn answer(rt: &impl Print, text: &[u8]) -> io::Result<()> {
     let mut steps = [0u16; 65536];
     let mut firsts = [0u16; 65536];
-    groups(text, &mut steps, &mut firsts);
+    groups(rt, text, &mut steps, &mut firsts)
 }
 
-fn main() {
-    let mut text = [0u8; 196608];
-    let n = io::read_full(STDIN_FILENO, &mut text);
-    answer(&text[..n]);
+fn main(rt: HostRuntime) -> io::Result<()> {
+    let text = testkit::read_input(&rt, 196608)?;
+    answer(&rt, text.as_slice())
 }

@@ -8,47 +8,55 @@
 ghost use Rattle.std.specs.Prelude.{◌≡◌, ◌≤◌, length};
 
 use poly::{Construction, Generator};
+use std::io;
 use tables::TablesAnswer;
 
 // What the slices hold before a call that is refused.
 const MARK: u16 = 7777;
 
 // Calls with both slices as they are, and prints the answer.
-fn build(generator: u64, steps: &mut [u16], firsts: &mut [u16]) {
+fn build(rt: &impl Print, generator: u64, steps: &mut [u16], firsts: &mut [u16]) -> io::Result<()> {
     let answer = tables::tables(generator, steps, firsts);
     match answer {
         TablesAnswer::Built(c) => {
-            testkit::print(b"period ");
-            testkit::print_number(c, b'\n');
+            testkit::print(rt, b"period ")?;
+            testkit::print_number(rt, c, b'\n')?;
         }
         TablesAnswer::Refused(r) => {
-            testkit::print_refused(r, b'\n');
+            testkit::print_refused(rt, r, b'\n')?;
         }
     }
+    Ok(())
 }
 
 // The same with the first n entries of the one and m of the other, where there are so many.
-fn build_part(generator: u64, n: usize, m: usize, steps: &mut [u16], firsts: &mut [u16]) {
+fn build_part(
+    rt: &impl Print,
+    generator: u64,
+    n: usize,
+    m: usize,
+    steps: &mut [u16],
+    firsts: &mut [u16],
+) -> io::Result<()> {
     if steps.len() < n {
-        return;
+        return Ok(());
     }
     if firsts.len() < m {
-        return;
+        return Ok(());
     }
-    build(generator, &mut steps[..n], &mut firsts[..m]);
+    build(rt, generator, &mut steps[..n], &mut firsts[..m])
 }
 
 // A line for each remainder: the remainder, its step and its first position.
-fn print_tables(steps: &[u16], firsts: &[u16]) {
-    let mut s: usize = 0;
-    while s < steps.len() {
-        testkit::print_number(s as u64, b' ');
-        testkit::print_number(testkit::widened(steps[s]), b' ');
+fn print_tables(rt: &impl Print, steps: &[u16], firsts: &[u16]) -> io::Result<()> {
+    for s in 0..steps.len() {
+        testkit::print_number(rt, s as u64, b' ')?;
+        testkit::print_number(rt, testkit::widened(steps[s]), b' ')?;
         if s < firsts.len() {
-            testkit::print_number(testkit::widened(firsts[s]), b'\n');
+            testkit::print_number(rt, testkit::widened(firsts[s]), b'\n')?;
         }
-        s += 1;
     }
+    Ok(())
 }
 
 // 1 if the generator and both tables' lengths are fit and every entry is right, else 0.
@@ -87,44 +95,53 @@ fn found(generator: u64, has_steps: bool, table: &mut [u16], other: &[u16], s: u
     }
     let right = table[s];
     let mut count: u64 = 0;
-    let mut j: u32 = 0;
-    while j < 16 {
+    for j in 0..16u32 {
         table[s] = right ^ (1u16 << j);
         count += 1 - verdict_by(generator, has_steps, table, other);
-        j += 1;
     }
     table[s] = right;
     count
 }
 
 // A line for each place from 0 on, so many apart: the place, and the wrong entries found there in each table.
-fn places(generator: u64, steps: &mut [u16], firsts: &mut [u16], apart: usize)
+fn places(
+    rt: &impl Print,
+    generator: u64,
+    steps: &mut [u16],
+    firsts: &mut [u16],
+    apart: usize,
+) -> io::Result<()>
     requires { (1 ≤ apart) × (apart ≤ 65536) }
 {
     let mut s: usize = 0;
     while s < steps.len() {
-        testkit::print_number(s as u64, b' ');
-        testkit::print_number(found(generator, true, steps, firsts, s), b' ');
-        testkit::print_number(found(generator, false, firsts, steps, s), b'\n');
+        testkit::print_number(rt, s as u64, b' ')?;
+        testkit::print_number(rt, found(generator, true, steps, firsts, s), b' ')?;
+        testkit::print_number(rt, found(generator, false, firsts, steps, s), b'\n')?;
         s += apart;
     }
+    Ok(())
 }
 
 // The tables of a generator before and after every place was broken and mended.
-fn breakage(generator: u64, steps: &mut [u16], firsts: &mut [u16], apart: usize)
+fn breakage(
+    rt: &impl Print,
+    generator: u64,
+    steps: &mut [u16],
+    firsts: &mut [u16],
+    apart: usize,
+) -> io::Result<()>
     requires { (1 ≤ apart) × (apart ≤ 65536) }
 {
-    build(generator, steps, firsts);
-    testkit::print_number(verdict(generator, steps, firsts), b'\n');
-    places(generator, steps, firsts, apart);
-    testkit::print_number(verdict(generator, steps, firsts), b'\n');
+    build(rt, generator, steps, firsts)?;
+    testkit::print_number(rt, verdict(generator, steps, firsts), b'\n')?;
+    places(rt, generator, steps, firsts, apart)?;
+    testkit::print_number(rt, verdict(generator, steps, firsts), b'\n')
 }
 
 fn mark(s: &mut [u16]) {
-    let mut i: usize = 0;
-    while i < s.len() {
-        s[i] = MARK;
-        i += 1;
+    for x in s {
+        *x = MARK;
     }
 }
 
@@ -141,27 +158,32 @@ fn is_mark(x: u16) -> u64
 fn kept(s: &[u16], n: usize) -> u64 {
     let most = testkit::least(n, s.len());
     let mut count: u64 = 0;
-    let mut i: usize = 0;
-    while i < most {
+    for i in 0..most {
         count += is_mark(s[i]);
-        i += 1;
     }
     count
 }
 
 // A call that is refused: its answer, and how much of each slice is as it was.
-fn turned_down(generator: u64, n: usize, m: usize, steps: &mut [u16], firsts: &mut [u16]) {
+fn turned_down(
+    rt: &impl Print,
+    generator: u64,
+    n: usize,
+    m: usize,
+    steps: &mut [u16],
+    firsts: &mut [u16],
+) -> io::Result<()> {
     mark(steps);
     mark(firsts);
-    build_part(generator, n, m, steps, firsts);
-    testkit::print_number(kept(steps, n), b' ');
-    testkit::print_number(kept(firsts, m), b'\n');
+    build_part(rt, generator, n, m, steps, firsts)?;
+    testkit::print_number(rt, kept(steps, n), b' ')?;
+    testkit::print_number(rt, kept(firsts, m), b'\n')
 }
 
-fn turn_down(generator: u64, n: usize, m: usize) {
+fn turn_down(rt: &impl Print, generator: u64, n: usize, m: usize) -> io::Result<()> {
     let mut steps = [0u16; 40];
     let mut firsts = [0u16; 40];
-    turned_down(generator, n, m, &mut steps, &mut firsts);
+    turned_down(rt, generator, n, m, &mut steps, &mut firsts)
 }
 
 // Room for the tables of the greatest degree.
@@ -172,71 +194,76 @@ fn table() -> [u16; 65536]
 }
 
 // A line for each generator of a text, which has their number first: the generator, and the answer with tables of so many entries.
-fn answers(size: usize, generators: &[u8], steps: &mut [u16], firsts: &mut [u16]) {
+fn answers(
+    rt: &impl Print,
+    size: usize,
+    generators: &[u8],
+    steps: &mut [u16],
+    firsts: &mut [u16],
+) -> io::Result<()> {
     let count = testkit::number(generators, 0);
     let mut at = count.next;
-    let mut left = count.value;
-    while 0 < left {
+    for _ in 0..count.value {
         let generator = testkit::number(generators, at);
-        testkit::print_number(generator.value, b' ');
-        build_part(generator.value, size, size, steps, firsts);
+        testkit::print_number(rt, generator.value, b' ')?;
+        build_part(rt, generator.value, size, size, steps, firsts)?;
         at = generator.next;
-        left -= 1;
     }
+    Ok(())
 }
 
-fn periods(size: usize, generators: &[u8]) {
+fn periods(rt: &impl Print, size: usize, generators: &[u8]) -> io::Result<()> {
     let mut steps = table();
     let mut firsts = table();
-    answers(size, generators, &mut steps, &mut firsts);
+    answers(rt, size, generators, &mut steps, &mut firsts)
 }
 
 // The catalogue's generators of degree 3 to 16, with 2^n for each degree.
-fn catalogue() {
-    periods(8, b"1: 11");
-    periods(16, b"1: 19");
-    periods(32, b"3: 41 53 37");
-    periods(64, b"5: 103 71 89 67 111");
-    periods(128, b"3: 137 207 197");
-    periods(256, b"9: 303 423 411 313 469 285 329 263 305");
-    periods(1024, b"3: 1587 2009 1397");
-    periods(2048, b"2: 2949 2823");
-    periods(4096, b"3: 7955 6159 7473");
-    periods(8192, b"1: 15605");
-    periods(16384, b"2: 18437 24621");
-    periods(32768, b"2: 50585 59413");
-    periods(65536, b"6: 98309 116839 66953 81253 69665 94051");
-    periods(65536, b"6: 67595 88373 95579 73167 101303 106647");
+fn catalogue(rt: &impl Print) -> io::Result<()> {
+    periods(rt, 8, b"1: 11")?;
+    periods(rt, 16, b"1: 19")?;
+    periods(rt, 32, b"3: 41 53 37")?;
+    periods(rt, 64, b"5: 103 71 89 67 111")?;
+    periods(rt, 128, b"3: 137 207 197")?;
+    periods(rt, 256, b"9: 303 423 411 313 469 285 329 263 305")?;
+    periods(rt, 1024, b"3: 1587 2009 1397")?;
+    periods(rt, 2048, b"2: 2949 2823")?;
+    periods(rt, 4096, b"3: 7955 6159 7473")?;
+    periods(rt, 8192, b"1: 15605")?;
+    periods(rt, 16384, b"2: 18437 24621")?;
+    periods(rt, 32768, b"2: 50585 59413")?;
+    periods(rt, 65536, b"6: 98309 116839 66953 81253 69665 94051")?;
+    periods(rt, 65536, b"6: 67595 88373 95579 73167 101303 106647")
 }
 
-fn large() {
+fn large(rt: &impl Print) -> io::Result<()> {
     let mut steps = table();
     let mut firsts = table();
     let g = Generator::ccitt();
-    breakage(g.coefficients, &mut steps, &mut firsts, 4099);
+    breakage(rt, g.coefficients, &mut steps, &mut firsts, 4099)
 }
 
-fn small() {
+fn small(rt: &impl Print) -> io::Result<()> {
     let mut steps = [0u16; 32];
     let mut firsts = [0u16; 32];
     let g = Generator::five();
-    build(g.coefficients, &mut steps, &mut firsts);
-    print_tables(&steps, &firsts);
-    breakage(g.coefficients, &mut steps, &mut firsts, 1);
+    build(rt, g.coefficients, &mut steps, &mut firsts)?;
+    print_tables(rt, &steps, &firsts)?;
+    breakage(rt, g.coefficients, &mut steps, &mut firsts, 1)
 }
 
-fn main() {
-    small();
-    catalogue();
-    large();
-    turn_down(8, 31, 32);
-    turn_down(7, 8, 8);
-    turn_down(131073, 32, 32);
-    turn_down(0, 1, 1);
-    turn_down(18446744073709551615, 32, 32);
-    turn_down(53, 31, 32);
-    turn_down(53, 32, 31);
-    turn_down(53, 33, 32);
-    turn_down(53, 0, 0);
-    turn_down(53, 32, 32);
+fn main(rt: HostRuntime) -> io::Result<()> {
+    small(&rt)?;
+    catalogue(&rt)?;
+    large(&rt)?;
+    turn_down(&rt, 8, 31, 32)?;
+    turn_down(&rt, 7, 8, 8)?;
+    turn_down(&rt, 131073, 32, 32)?;
+    turn_down(&rt, 0, 1, 1)?;
+    turn_down(&rt, 18446744073709551615, 32, 32)?;
+    turn_down(&rt, 53, 31, 32)?;
+    turn_down(&rt, 53, 32, 31)?;
+    turn_down(&rt, 53, 33, 32)?;
+    turn_down(&rt, 53, 0, 0)?;
+    turn_down(&rt, 53, 32, 32)
 }

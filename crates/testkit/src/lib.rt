@@ -1,11 +1,21 @@
-// What the test programs share: numbers of a text, bytes from a seed, a hash, tables with a change, and printing.
+// What the test programs share: the input, numbers of a text, bytes from a seed, a hash, tables with a change, and printing.
 #![tactic(auto)]
 
 ghost use Rattle.std.specs.Prelude.{◌^◌, ◌<◌, ◌≤◌, length};
 
+use std::io;
+use std::io::Read;
+
 use base::Refusal;
-use libc::STDOUT_FILENO;
 use patterns::{MOST_POSITIONS, Pattern};
+
+// The standard input, or its first bytes where it has more than `most`.
+pub fn read_input(rt: &(impl Input + AllocGlobal), most: u64) -> io::Result<Vec<u8>>
+{
+    let mut text = Vec::new(rt.alloc());
+    rt.reader().take(most).read_to_end(&mut text)?;
+    Ok(text)
+}
 
 // A number that was read from a text, and the place behind its last digit.
 #[derive(Clone, Copy)]
@@ -18,13 +28,11 @@ pub struct Reading {
 fn first_digit(text: &[u8], at: usize) -> usize
     ensures { result ≤ length text.now }
 {
-    let mut i = at;
-    while i < text.len() {
+    for i in at..text.len() {
         let b = text[i];
         if b'0' <= b && b <= b'9' {
             return i;
         }
-        i += 1;
     }
     text.len()
 }
@@ -34,8 +42,8 @@ pub fn number(text: &[u8], at: usize) -> Reading
     ensures { (result.value < 2 ^ 32) × (result.next ≤ length text.now) }
 {
     let mut value: u64 = 0;
-    let mut i = first_digit(text, at);
-    while i < text.len() {
+    let first = first_digit(text, at);
+    for i in first..text.len() {
         let b = text[i];
         if b < b'0' {
             return Reading { value, next: i };
@@ -44,9 +52,11 @@ pub fn number(text: &[u8], at: usize) -> Reading
             return Reading { value, next: i };
         }
         value = (value * 10 + (b - b'0') as u64) % 4294967296;
-        i += 1;
     }
-    Reading { value, next: i }
+    Reading {
+        value,
+        next: text.len(),
+    }
 }
 
 // A number given by its high and low 32 bits.
@@ -76,12 +86,10 @@ pub fn fill(out: &mut [u8], seed: u32) {
 // Bytes, each a number of the text; the answer is the place behind the last one.
 fn read_bytes(text: &[u8], at: usize, out: &mut [u8]) -> usize {
     let mut next = at;
-    let mut i = 0;
-    while i < out.len() {
+    for b in out {
         let byte = number(text, next);
-        out[i] = (byte.value % 256) as u8;
+        *b = (byte.value % 256) as u8;
         next = byte.next;
-        i += 1;
     }
     next
 }
@@ -101,10 +109,8 @@ pub fn read_packet(text: &[u8], at: usize, packet: &mut [u8]) -> usize {
 // modulo 2^32. Both steps can be undone, so bytes that differ in one place never hash alike.
 pub fn mix(before: u64, bytes: &[u8]) -> u64 {
     let mut h = before % 4294967296;
-    let mut i = 0;
-    while i < bytes.len() {
-        h = (h ^ bytes[i] as u64) * 16777619 % 4294967296;
-        i += 1;
+    for b in bytes {
+        h = (h ^ *b as u64) * 16777619 % 4294967296;
     }
     h
 }
@@ -161,29 +167,28 @@ pub fn prepare(text: &[u8], at: usize, steps: &mut [u16], firsts: &mut [u16]) ->
 }
 
 // Prints a word as it stands.
-pub fn print(word: &[u8]) {
-    io::write_all(STDOUT_FILENO, word);
+pub fn print(rt: &impl Print, word: &[u8]) -> io::Result<()> {
+    rt.write_all(word)
 }
 
 // Prints a number and a separator, a blank or a line's end.
-pub fn print_number(n: u64, separator: u8) {
-    io::print_decimal(STDOUT_FILENO, n);
-    io::write_all(STDOUT_FILENO, &[separator]);
+pub fn print_number(rt: &impl Print, n: u64, separator: u8) -> io::Result<()> {
+    rt.print(n)?;
+    rt.write_all(&[separator])
 }
 
 // Prints numbers, each with a blank behind it.
-pub fn print_numbers(numbers: &[u64]) {
-    let mut i = 0;
-    while i < numbers.len() {
-        print_number(numbers[i], b' ');
-        i += 1;
+pub fn print_numbers(rt: &impl Print, numbers: &[u64]) -> io::Result<()> {
+    for n in numbers {
+        print_number(rt, *n, b' ')?;
     }
+    Ok(())
 }
 
 // Prints "refused", the number of the refusal and a separator.
-pub fn print_refused(r: Refusal, separator: u8) {
-    io::write_all(STDOUT_FILENO, b"refused ");
-    print_number(base::number_of(r) as u64, separator);
+pub fn print_refused(rt: &impl Print, r: Refusal, separator: u8) -> io::Result<()> {
+    rt.write_all(b"refused ")?;
+    print_number(rt, base::number_of(r) as u64, separator)
 }
 
 // A number of 16 bits as one of 64.
@@ -191,17 +196,16 @@ pub fn widened(x: u16) -> u64 {
     x as u64
 }
 
-fn print_positions(pos: &[u16]) {
-    let mut i = 0;
-    while i < pos.len() {
-        print_number(widened(pos[i]), b' ');
-        i += 1;
+fn print_positions(rt: &impl Print, pos: &[u16]) -> io::Result<()> {
+    for p in pos {
+        print_number(rt, widened(*p), b' ')?;
     }
+    Ok(())
 }
 
 // Prints the positions of a pattern, each with a blank behind it.
-pub fn print_pattern(p: Pattern) {
+pub fn print_pattern(rt: &impl Print, p: Pattern) -> io::Result<()> {
     let held = patterns::spread(p);
     let n = least(patterns::count_of(p), MOST_POSITIONS);
-    print_positions(&held[..n]);
+    print_positions(rt, &held[..n])
 }
