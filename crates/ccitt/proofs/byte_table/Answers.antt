@@ -3,12 +3,8 @@ use mathlib.Core.Path.{refl}
 use Rattle.poly.specs.Polynomial.{rem, down, down_in, reduce, degree, degree_in}
 use Rattle.tables.specs.Tables.{values}
 use Rattle.ccitt.specs.ByteTable.{byte_entry, byte_table}
-use Rattle.ccitt.proofs.byte_table.Statement.{statement}
-use Rattle.ccitt.proofs.byte_table.Tie as tie
+use Rattle.ccitt.proofs.byte_table.Goals as goal
 
-returns : tie.Need-returns
+pub returns : goal.returns
 unfolding byte_table values byte_entry rem down down_in reduce degree degree_in
 returns c = refl
-
-pub byte_table_spec : {M : Type 1} → statement M
-byte_table_spec = tie.close (tie.spec returns)

@@ -1,0 +1,16 @@
+-- `wrong_odds` tests the rule at odd places above 1. The invariant: the mismatches gathered are 0 exactly when the places passed obey it.
+use mathlib.Core.Path.{◌≡◌}
+use Prim.Native.Nat.{◌+◌, ◌-◌, ◌*◌, ◌/◌, ◌≤◌}
+use lib.Bits.{bit_xor}
+use lib.ListN.{length, get_or}
+use Rattle.verifying.specs.Rule.{later}
+use Rattle.verifying.proofs.GatherLaws.{Gathered}
+use Rattle.verifying.proofs.wrong_odds.Given as goal
+
+abbrev pub invariant-loop-k : goal.invariant-loop-k
+invariant-loop-k l =
+    (1 ≤ l.k) × (l.k ≤ length l.firsts / 2) × Gathered (λ j. 1 ≤ j → get_or l.firsts (j * 2 + 1) 0 ≡ later (get_or l.firsts (bit_xor j l.half) 0)) l.k l.wrong
+
+abbrev pub decreases-loop-k : goal.decreases-loop-k
+decreases-loop-k l =
+    length l.firsts - l.k
