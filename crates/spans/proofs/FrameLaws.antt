@@ -99,7 +99,7 @@ frame (next {p = p} {ps = ps} x y a) k e =
     (p, t.0, t.1, record { made = ap (λ (s : List ℕ). p ∷ s) t.2; ascends = t.3; below = t.4; apart = t.5; counts = t.6 })
 
 -- and ends with a set between them make one
-framed_tail : {l p b : ℕ} {ps : List ℕ} → Ascending b (suc p) ps → p < b → b < l → Ascending l (suc p) (ps ++ b ∷ [])
+framed_tail : {l b p : ℕ} {ps : List ℕ} → Ascending b (suc p) ps → p < b → b < l → Ascending l (suc p) (ps ++ b ∷ [])
 framed_tail ends h k = next h k ends
 framed_tail (next x y a) h k = next x (omega arith) (framed_tail a y k)
 

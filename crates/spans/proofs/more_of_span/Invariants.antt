@@ -1,0 +1,20 @@
+-- `more_of_span` finds the first set of one span. The loop's invariant: what is first from `a` on is first from `from` on.
+use mathlib.Core.Path.{◌≡◌}
+use mathlib.Core.Bool.{Bool}
+use mathlib.Core.List.{List}
+use Prim.Native.Nat.{ℕ, ◌-◌, ◌≤◌}
+use lib.ListN.{length}
+use Rattle.patterns.specs.Order.{before}
+use Rattle.placing.specs.Placing.{Lookup}
+use Rattle.spans.specs.Spans.{Finds, OfSpan}
+use Rattle.spans.proofs.more_of_span.Given as goal
+
+abbrev pub invariant-loop-a : goal.invariant-loop-a
+invariant-loop-a l =
+    (l.from ≤ l.a) × (l.a ≤ length l.pow) × (length l.pos ≡ length l.initial.pos) × (l.l ≡ length l.pow) × (l.n ≡ length l.initial.pos)
+    × ((power : ℕ → ℕ) → Lookup power l.pow l.first l.period → (r : Bool) (x : List ℕ)
+    → Finds before (OfSpan power (length l.pow) (length l.initial.pos - 2) l.u l.span l.a) r x → Finds before (OfSpan power (length l.pow) (length l.initial.pos - 2) l.u l.span l.from) r x)
+
+abbrev pub decreases-loop-a : goal.decreases-loop-a
+decreases-loop-a l =
+    length l.pow - l.a
