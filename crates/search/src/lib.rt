@@ -25,6 +25,7 @@ pub enum Found {
 // Whether parity rules out sets of `count` positions with the sum `u`: it tells of generators with an even number of ones,
 // and of no other. The generator's ones are counted last: after a listed pattern, if their number is even, the first test
 // has answered.
+#[tactic(auto, unfolding(crate::specs::Search::ruled_out))]
 pub fn ruled_out(generator: u64, count: usize, u: usize) -> bool
     ensures { result ≡ ruled_out generator count u }
 {
