@@ -12,8 +12,7 @@ use Rattle.checksum.proofs.SumLaws.{total_bound}
 use Rattle.checksum.proofs.RangeLaws.{range_bytes, range_length}
 use Rattle.weighing.specs.Totals.{set_weight, clear_weight}
 use Rattle.weighing.proofs.WeightLaws.{total-flips, set_weight_nil, clear_weight_nil, clear_turn, set_turn}
-use Rattle.weighing.proofs.flipped_total.Statement.{statement}
-use Rattle.weighing.proofs.flipped_total.Tie as tie
+use Rattle.weighing.proofs.flipped_total.Goals as goal
 
 record Weighing (from to : ℕ) (packet pos : List ℕ) (plus minus i : ℕ) : Type 0 where
   within : i ≤ length pos
@@ -22,18 +21,12 @@ record Weighing (from to : ℕ) (packet pos : List ℕ) (plus minus i : ℕ) : T
   few : plus ≤ 32768 * i
   less : minus ≤ 32768 * i
 
-abbrev invariant-loop : tie.invariant-loop
-invariant-loop from to before packet pos plus₀ minus₀ i₀ plus minus i = Weighing from to packet pos plus minus i
-
-abbrev decreases-loop : tie.decreases-loop
-decreases-loop from to before packet pos plus₀ minus₀ i₀ plus minus i = length pos - i
-
 -- there are no more positions than bits, and the total is that of at most 512 bytes
-record Small (s : tie.Start invariant-loop decreases-loop) : Type 0 where
+record Small (s : goal.Start ) : Type 0 where
   few : length s.args.pos.now ≤ 4096
   small : s.args.before ≤ 65536 * 512
 
-bounds : (s : tie.Start invariant-loop decreases-loop) → Small s
+bounds : (s : goal.Start ) → Small s
 bounds s =
     let a = s.args in
     let p = a.packet.now in
@@ -52,14 +45,14 @@ bounds s =
     }
 
 -- no position left: all is weighed
-weighed : (c : tie.After-loop invariant-loop decreases-loop) → let a = c.before.before.before.before.args in
-    total (range a.from a.to (flips a.packet.now a.pos.now)) + c.before.loop.minus ≡ a.before + c.before.loop.plus
+weighed : (c : goal.After-loop-i ) → let a = c.args in
+    total (range a.from a.to (flips a.packet.now a.pos.now)) + c.loop-i.minus ≡ a.before + c.loop-i.plus
 weighed c =
-    let s = c.before.before.before.before in
+    let s = c in
     let a = s.args in
     let from : ℕ = a.from in
     let to : ℕ = a.to in
-    let l = c.before.loop in
+    let l = c.loop-i in
     let none = drop_of_length-le a.pos.now {i = l.i} (omega arith) in
     let p = ap (clear_weight from to a.packet.now) none ∙ clear_weight_nil from to a.packet.now in
     let m = ap (set_weight from to a.packet.now) none ∙ set_weight_nil from to a.packet.now in
@@ -73,34 +66,31 @@ weighed c =
       total-flips from to a.packet.now s.requires.1 s.requires.0.inside,
     )
 
-loop-holds : tie.Need-loop-init invariant-loop decreases-loop
-loop-holds c =
+pub loop-i-init : goal.loop-i-init
+loop-i-init c =
     record { within = omega arith; adding = omega arith; taking = omega arith; few = omega arith; less = omega arith }
 
-cast-change-of : tie.Need-overflow-cast-change-of invariant-loop decreases-loop
-cast-change-of c = omega (arith, c.shared-slice-known3.given c.before.before.loop.i)
-
-change-of-requires : tie.Need-change-of-requires invariant-loop decreases-loop
-change-of-requires c κs = ascending_at c.before.before.before.before.before.requires.1 c.before.before.loop.i (omega arith)
+pub change_of-change-requires : goal.change_of-change-requires
+change_of-change-requires c = ascending_at c.requires.1 c.loop-i.i (omega arith)
 
 -- the entry, from what one flip changes
-abbrev entry : tie.After-change-of invariant-loop decreases-loop → tie.Start invariant-loop decreases-loop
-entry c = c.before.before.before.before.before.before
+abbrev entry : goal.After-change_of-change  → goal.Start 
+entry c = c.before
 
-add-plus : tie.Need-overflow-add-plus invariant-loop decreases-loop
-add-plus c = let t = c.before in omega (arith, t.change-of.ensures.few, t.before.before.before.loop.invariant.few, bounds (entry t))
+pub overflow_add-plus : goal.overflow_add-plus
+overflow_add-plus c = let t = c in omega (arith, t.change_of-change.ensures.few, t.loop-i.invariant.few, bounds (entry t))
 
-add-minus : tie.Need-overflow-add-minus invariant-loop decreases-loop
-add-minus c = let t = c.before.before in omega (arith, t.change-of.ensures.less, t.before.before.before.loop.invariant.less, bounds (entry t))
+pub overflow_add-minus : goal.overflow_add-minus
+overflow_add-minus c = let t = c in omega (arith, t.change_of-change.ensures.less, t.loop-i.invariant.less, bounds (entry t))
 
-loop-again : tie.Need-loop-preserved invariant-loop decreases-loop
-loop-again c =
-    let t = c.before.before in
-    let l = t.before.before.before.loop in
+pub loop-i-preserved : goal.loop-i-preserved
+loop-i-preserved c =
+    let t = c in
+    let l = t.loop-i in
     let s = (entry t).args in
     let p = s.packet.now in
     let q = s.pos.now in
-    let k = t.change-of.ensures in
+    let k = t.change_of-change.ensures in
     let h : l.i < length q = omega arith in
     record {
       within = omega arith;
@@ -110,31 +100,11 @@ loop-again c =
       less = omega (arith, k.less, l.invariant.less);
     }
 
-add-result : tie.Need-overflow-add-result invariant-loop decreases-loop
-add-result c = omega (arith, bounds c.before.before.before.before, c.before.loop.invariant.few)
+pub overflow_add-result : goal.overflow_add-result
+overflow_add-result c = omega (arith, bounds c.before, c.loop-i.invariant.few)
 
-sub-result : tie.Need-overflow-sub-result invariant-loop decreases-loop
-sub-result c = omega (arith, weighed c)
+pub overflow_sub-result : goal.overflow_sub-result
+overflow_sub-result c = omega (arith, weighed c)
 
-returns : tie.Need-returns invariant-loop decreases-loop
+pub returns : goal.returns
 returns c = omega (arith, weighed c)
-
-pub flipped_total_spec : {M : Type 1} → statement M
-flipped_total_spec =
-    tie.close
-    (tie.spec
-    invariant-loop
-    decreases-loop
-    loop-holds
-    (λ c. omega arith)
-    (λ c. omega arith)
-    cast-change-of
-    change-of-requires
-    add-plus
-    add-minus
-    (λ c. omega arith)
-    (λ c. omega arith)
-    loop-again
-    add-result
-    sub-result
-    returns)

@@ -1,0 +1,18 @@
+-- `total_of` equals its definition. Invariant: the running total and that of the words left make the total of all.
+-- The measure is what is left of the bytes.
+use Prim.Native.Nat.{◌+◌, ◌-◌, ◌*◌, ◌≤◌}
+use mathlib.Core.Path.{◌≡◌}
+use lib.ListN.{length, drop}
+use Rattle.checksum.specs.Checksum.{total}
+use Rattle.checksum.proofs.SumLaws.{total_turn, total_past}
+use borrow.Author.Rules.{rules}
+use native.Mathlib.Omega.{arith}
+use Rattle.weighing.proofs.total_of.Goals as goal
+
+pub loop-i-preserved : goal.loop-i-preserved
+loop-i-preserved c =
+    let l = c in
+    omega (arith, total_turn l.args.s.now l.loop-i.i c.word_at.result c.loop-i-test.true c.word_at.ensures.0)
+
+pub returns : goal.returns
+returns c = omega (arith, total_past c.args.s.now c.loop-i.i c.loop-i-test.false)
