@@ -1,18 +1,10 @@
 -- `change_of` goes by what the bit counts: nothing outside the range, and else by what it is.
 use mathlib.Core.Path.{◌≡◌, sym, ap₂, ◌∙◌}
-use Prim.Native.Nat.{ℕ, ◌-◌, ◌*◌, ◌≤◌}
+use Prim.Native.Nat.{ℕ, ◌-◌, ◌*◌}
 use native.Mathlib.Omega.{arith}
-use borrow.Author.Rules.{rules}
 use Rattle.weighing.specs.Totals.{weight}
 use Rattle.weighing.proofs.WeightLaws.{digit_multiple}
 use Rattle.weighing.proofs.change_of.Goals as goal
-
--- a bit counts at most 32768
-clear-small : (c : goal.After-bit_of-b) → (1 - c.bit_of-b.result) * c.weight_of-weight.result ≤ 32768
-clear-small c = digit_multiple (1 - c.bit_of-b.result) c.weight_of-weight.result 32768 (omega arith) c.weight_of-weight.ensures.1
-
-set-small : (c : goal.After-bit_of-b) → c.bit_of-b.result * c.weight_of-weight.result ≤ 32768
-set-small c = digit_multiple c.bit_of-b.result c.weight_of-weight.result 32768 (omega (arith, c.bit_of-b.ensures.1)) c.weight_of-weight.ensures.1
 
 pub returns-then-weight-eq0 : goal.returns-then-weight-eq0
 returns-then-weight-eq0 c =
@@ -25,10 +17,10 @@ pub overflow_sub-plus : goal.overflow_sub-plus
 overflow_sub-plus c = omega (arith, c.bit_of-b.ensures.1)
 
 pub overflow_mul-plus : goal.overflow_mul-plus
-overflow_mul-plus c = omega (arith, clear-small c)
+overflow_mul-plus c = omega (arith, digit_multiple (1 - c.bit_of-b.result) c.weight_of-weight.result 32768 (omega arith) c.weight_of-weight.ensures.1)
 
 pub overflow_mul-minus : goal.overflow_mul-minus
-overflow_mul-minus c = omega (arith, set-small c)
+overflow_mul-minus c = omega (arith, digit_multiple c.bit_of-b.result c.weight_of-weight.result 32768 (omega (arith, c.bit_of-b.ensures.1)) c.weight_of-weight.ensures.1)
 
 pub returns : goal.returns
 returns c =
@@ -37,6 +29,6 @@ returns c =
     record {
       adds = ap₂ (λ (x y : ℕ). (1 - x) * y) b k;
       takes = ap₂ (λ (x y : ℕ). x * y) b k;
-      few = clear-small c;
-      less = set-small c;
+      few = digit_multiple (1 - c.bit_of-b.result) c.weight_of-weight.result 32768 (omega arith) c.weight_of-weight.ensures.1;
+      less = digit_multiple c.bit_of-b.result c.weight_of-weight.result 32768 (omega (arith, c.bit_of-b.ensures.1)) c.weight_of-weight.ensures.1;
     }

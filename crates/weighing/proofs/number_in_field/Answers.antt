@@ -1,7 +1,6 @@
 -- `number_in_field` reads the word at the field, where there is one.
 use mathlib.Core.Path.{sym, ◌∙◌}
 use native.Mathlib.Omega.{arith}
-use borrow.Author.Rules.{rules}
 use Rattle.checksum.specs.Checksum.{field_of}
 use Rattle.weighing.proofs.WeighedLaws.{no_field, some_field}
 use Rattle.weighing.proofs.number_in_field.Goals as goal

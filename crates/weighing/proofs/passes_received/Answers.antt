@@ -1,6 +1,5 @@
 -- `passes_received` flips no position.
 use mathlib.Core.Path.{ap, ◌∙◌}
-use borrow.Author.Rules.{rules}
 use Rattle.base.specs.Lists.{ends}
 use Rattle.packet.proofs.FlipLaws.{flips_nil}
 use Rattle.checksum.specs.Checksum.{passes}

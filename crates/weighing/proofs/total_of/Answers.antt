@@ -1,11 +1,6 @@
 -- `total_of` equals its definition. Invariant: the running total and that of the words left make the total of all.
 -- The measure is what is left of the bytes.
-use Prim.Native.Nat.{◌+◌, ◌-◌, ◌*◌, ◌≤◌}
-use mathlib.Core.Path.{◌≡◌}
-use lib.ListN.{length, drop}
-use Rattle.checksum.specs.Checksum.{total}
 use Rattle.checksum.proofs.SumLaws.{total_turn, total_past}
-use borrow.Author.Rules.{rules}
 use native.Mathlib.Omega.{arith}
 use Rattle.weighing.proofs.total_of.Goals as goal
 

@@ -2,12 +2,11 @@
 use mathlib.Core.Path.{ap₂}
 use Prim.Native.Nat.{ℕ}
 use native.Mathlib.Omega.{arith}
-use borrow.Author.Rules.{rules}
 use Rattle.checksum.specs.Checksum.{range}
 use Rattle.weighing.proofs.weigh.Goals as goal
 
 pub number_in_field-in_field-requires : goal.number_in_field-in_field-requires
-number_in_field-in_field-requires c κs h = let p = c.requires in omega (arith, p.2, p.3 h)
+number_in_field-in_field-requires c h = let p = c.requires in omega (arith, p.2, p.3 h)
 
 pub returns : goal.returns
 unfolding range
