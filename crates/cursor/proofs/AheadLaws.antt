@@ -4,7 +4,7 @@ use mathlib.Core.Bool.{Bool}
 use mathlib.Core.List.{List}
 use Prim.Native.Nat.{ℕ, ◌≤◌}
 use native.Mathlib.Omega.{arith}
-use lib.ListN.{length, take}
+use lib.ListN.{length}
 use Rattle.patterns.specs.Listing.{sift}
 use Rattle.search.specs.Search.{Told}
 use Rattle.search.specs.declared.Found.{Found}

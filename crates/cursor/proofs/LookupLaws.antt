@@ -13,7 +13,7 @@ use Rattle.poly.specs.Fit.{Divisor}
 use Rattle.poly.specs.declared.Generator.{Generator}
 use Rattle.poly.proofs.DivisionLaws.{rem_zero, rem-xor}
 use Rattle.poly.proofs.ParityLaws.{ones_power, parity_rem}
-use Rattle.tables.specs.Tables.{power, values, first}
+use Rattle.tables.specs.Tables.{power, first}
 use Rattle.tables.proofs.PowerLaws.{power_lt}
 use Rattle.tables.proofs.PeriodLaws.{period_positive, power_again, power_only}
 use Rattle.tables.proofs.FirstLaws.{first_hit, first-least}
