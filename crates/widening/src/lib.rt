@@ -96,6 +96,7 @@ fn beyond(pow: &[u32], first: &[u16], period: usize, u: usize, pos: &mut [u16]) 
 }
 
 // The first set of as many positions as `pos` has room for.
+#[tactic(auto, using(crate::proofs::WidenLaws::all_spans, crate::proofs::FewLaws::few_finds))]
 pub fn first_of_count(pow: &[u32], first: &[u16], period: usize, u: usize, pos: &mut [u16]) -> bool
     requires { Ready pow.now first.now period 0 u }
     ensures { (power : ℕ → ℕ) → Lookup power pow.now first.now period → Finds before (Summing power (length pow.now) (length pos.old) 0 u) result pos.new }
@@ -107,6 +108,7 @@ pub fn first_of_count(pow: &[u32], first: &[u16], period: usize, u: usize, pos: 
 }
 
 // The first set of as many positions that follows the one in `pos`, which need not have the sum `u`.
+#[tactic(auto, using(crate::proofs::FewLaws::few_after))]
 pub fn next_of_count(pow: &[u32], first: &[u16], period: usize, u: usize, pos: &mut [u16]) -> bool
     requires { Ready pow.now first.now period 0 u × Ascending (length pow.now) 0 pos.old }
     ensures { (power : ℕ → ℕ) → Lookup power pow.now first.now period → Finds before (Behind (Summing power (length pow.now) (length pos.old) 0 u) pos.old) result pos.new }
