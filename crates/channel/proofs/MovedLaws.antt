@@ -1,7 +1,7 @@
 -- Positions that move up by one, from the last down to an index: before i all is as it was, and behind i stands what stood from i on.
 use mathlib.Core.Path.{◌≡◌, refl, sym, ap, ap₂, ◌∙◌}
 use mathlib.Core.List.{List, ◌∷◌, ◌++◌}
-use Prim.Native.Nat.{ℕ, suc, ◌+◌, ◌-◌, ◌<◌, ◌≤◌}
+use Prim.Native.Nat.{ℕ, suc, ◌-◌, ◌<◌, ◌≤◌}
 use native.Mathlib.Omega.{arith}
 use lib.ListN.{length, get_or, take, drop, set, length-set, drop_of_length-le}
 use lib.Seq.{length-take-le, drop-cons, set_split, get_or-set_same, take-set-le, drop-set-lt, get_or-take, take-take}
