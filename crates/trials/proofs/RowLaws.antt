@@ -138,9 +138,9 @@ module _ (c : Crc) (k : Check) (limit n seed : ℕ) (packet output : List ℕ)
         ahead = λ i l o. rw (get_or-set_other t.counts f i _ [] (λ e. omega arith)) (q.ahead i l o);
       }
 
-  stands_then : {f m all : ℕ} {t : Tried} (j : ℕ) → f ≤ most_flips → m + j ≡ all → Standing f m t → Standing f all (trials c k limit f j t)
+  stands_then : {f all : ℕ} (j : ℕ) {m : ℕ} {t : Tried} → f ≤ most_flips → m + j ≡ all → Standing f m t → Standing f all (trials c k limit f j t)
   unfolding trials
-  stands_then {m = m} {all = all} zero h e q = let same : m ≡ all = omega arith in rw same at q
+  stands_then {all = all} zero {m = m} h e q = let same : m ≡ all = omega arith in rw same at q
   stands_then (suc j) h e q = stands_then j h (omega arith) (stands_after h q)
 
   -- a row that is finished goes over to the next
@@ -155,9 +155,9 @@ module _ (c : Crc) (k : Check) (limit n seed : ℕ) (packet output : List ℕ)
         ahead = λ i l m. q.ahead i (omega arith) m;
       }
 
-  stands_last : {f : ℕ} {t : Tried} (rows : ℕ) → f + rows ≡ most_flips → Standing f 0 t → Standing most_flips n (rows_of c k limit n (suc rows) f t)
+  stands_last : (rows : ℕ) {f : ℕ} {t : Tried} → f + rows ≡ most_flips → Standing f 0 t → Standing most_flips n (rows_of c k limit n (suc rows) f t)
   unfolding rows_of
-  stands_last {f} {t} zero e q =
+  stands_last zero {f} {t} e q =
       let all : f ≡ most_flips = omega arith in
       subst (λ (i : ℕ). Standing i n (trials c k limit f n t)) all (stands_then n (omega arith) (omega arith) q)
   stands_last (suc rows) e q = stands_last rows (omega arith) (stands_next (omega arith) (stands_then n (omega arith) (omega arith) q))

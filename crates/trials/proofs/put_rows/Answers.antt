@@ -1,24 +1,16 @@
 -- `put_rows` writes count after count. Invariant: the first i are those of the rows.
 use mathlib.Core.Path.{◌≡◌, refl, sym, ap, ap₂, ◌∙◌}
 use mathlib.Core.List.{List, [], ◌∷◌, ◌++◌}
-use Prim.Native.Nat.{ℕ, ◌+◌, ◌*◌, ◌-◌, ◌/◌, ◌%◌, ◌<◌, ◌≤◌}
+use Prim.Native.Nat.{ℕ, ◌+◌, ◌*◌, ◌/◌, ◌%◌, ◌<◌}
 use native.Mathlib.Numerals.{add-one}
 use native.Mathlib.Omega.{arith}
-use borrow.Author.Rules.{rules}
 use lib.ListN.{length, get_or, take, set, length-set}
 use lib.Seq.{take-suc, take_all, take-suc-set}
 use Rattle.trials.specs.Trials.{joined_rows}
 use Rattle.trials.specs.Running.{Shaped}
 use Rattle.trials.proofs.CountLaws.{joined_length}
 use Rattle.trials.proofs.RowLaws.{joined_at}
-use Rattle.trials.proofs.put_rows.Statement.{statement}
-use Rattle.trials.proofs.put_rows.Tie as tie
-
-abbrev invariant-loop : tie.invariant-loop
-invariant-loop counts₀ rows i₀ counts i = (i ≤ length counts₀) × (length counts ≡ length counts₀) × (take i counts ≡ take i (joined_rows rows))
-
-abbrev decreases-loop : tie.decreases-loop
-decreases-loop counts₀ rows i₀ counts i = length counts₀ - i
+use Rattle.trials.proofs.put_rows.Goals as goal
 
 -- all rows are of five
 fives : (rows : List (List ℕ)) → Shaped rows → (i : ℕ) → i < length rows → length (get_or rows i []) ≡ 5
@@ -36,36 +28,17 @@ one_more rows counts i s h k e =
     ∙ sym (take-suc (joined_rows rows) i 0 (omega (arith, forty-five rows s)))
     ∙ sym (ap (λ (n : ℕ). take n (joined_rows rows)) (add-one i))
 
-loop-holds : tie.Need-loop-init invariant-loop decreases-loop
-loop-holds c = (omega arith, refl, refl)
+pub loop-i-init : goal.loop-i-init
+loop-i-init c = (omega arith, refl, refl)
 
-loop-again : tie.Need-loop-preserved invariant-loop decreases-loop
-loop-again c =
-    let l = c.before.before.loop in
-    let s = c.before.before.before in
-    (omega arith, length-set l.counts l.i _ ∙ l.invariant.1, one_more s.args.t1 l.counts l.i s.requires.1 (omega (arith, l.invariant.1)) (omega (arith, s.requires.0)) l.invariant.2)
+pub loop-i-preserved : goal.loop-i-preserved
+loop-i-preserved c =
+    let l = c.loop-i in
+    let s = c in
+    (omega arith, length-set l.counts l.i _ ∙ l.invariant.1, one_more s.args.rows l.counts l.i s.requires.1 (omega (arith, l.invariant.1)) (omega (arith, s.requires.0)) l.invariant.2)
 
-returns : tie.Need-returns invariant-loop decreases-loop
+pub returns : goal.returns
 returns c =
-    let l = c.before.loop in
-    let s = c.before.before in
-    sym (take_all l.i l.counts (omega (arith, l.invariant.1))) ∙ l.invariant.2 ∙ take_all l.i (joined_rows s.args.t1) (omega (arith, forty-five s.args.t1 s.requires.1, s.requires.0))
-
-pub put_rows_spec : {M : Type 1} → statement M
-put_rows_spec =
-    tie.close
-    (tie.spec
-    invariant-loop
-    decreases-loop
-    loop-holds
-    (λ c. search rules)
-    (λ c. search rules)
-    (λ c. search rules)
-    (λ c. search rules)
-    (λ c. search rules)
-    (λ c. search rules)
-    (λ c. search rules)
-    (λ c. search rules)
-    loop-again
-    (λ c. search rules)
-    returns)
+    let l = c.loop-i in
+    let s = c in
+    sym (take_all l.i l.counts (omega (arith, l.invariant.1))) ∙ l.invariant.2 ∙ take_all l.i (joined_rows s.args.rows) (omega (arith, forty-five s.args.rows s.requires.1, s.requires.0))
