@@ -81,7 +81,7 @@ pub fn unfit_tables(g: Generator, steps: usize, firsts: usize) -> bool
 // The period, in two look-ups, of tables that are right.
 pub fn period_of(g: Generator, steps: &[u16], firsts: &[u16]) -> u64
     requires lent { Lent g steps.now }
-    requires steps_value { (steps.now ≡ step_table g.degree g.coefficients) × (firsts.now ≡ first_table g.degree g.coefficients) }
+    requires right { (steps.now ≡ step_table g.degree g.coefficients) × (firsts.now ≡ first_table g.degree g.coefficients) }
     ensures { result ≡ period g.degree g.coefficients }
 {
     let t = steps[1] as usize;

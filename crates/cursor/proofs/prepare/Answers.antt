@@ -12,7 +12,7 @@ period_of-requires c =
     let s = c in
     let p = s.requires.0 in record {
       lent = record { fit = p.fit; full = ap length p.right_steps ∙ length-step_table s.args.g.degree s.args.g.coefficients };
-      steps_value = (p.right_steps, p.right_firsts);
+      right = (p.right_steps, p.right_firsts);
     }
 
 pub returns : goal.returns

@@ -43,10 +43,10 @@ pub offset_bounds-firsts-t : goal.offset_bounds-firsts-t
 offset_bounds-firsts-t c = omega (arith, c.shared_slice_known-1.given 1)
 
 pub bounds-firsts-t : goal.bounds-firsts-t
-bounds-firsts-t c = (looked_up c.args.g c.args.steps.now c.args.firsts.now c.requires.lent c.requires.steps_value.0 c.requires.steps_value.1).inside
+bounds-firsts-t c = (looked_up c.args.g c.args.steps.now c.args.firsts.now c.requires.lent c.requires.right.0 c.requires.right.1).inside
 
 pub overflow_add-result : goal.overflow_add-result
 overflow_add-result c = omega (arith, c.shared_slice_known-2-1.given (get_or c.args.steps.now 1 0))
 
 pub returns : goal.returns
-returns c = omega (arith, (looked_up c.args.g c.args.steps.now c.args.firsts.now c.requires.lent c.requires.steps_value.0 c.requires.steps_value.1).entry)
+returns c = omega (arith, (looked_up c.args.g c.args.steps.now c.args.firsts.now c.requires.lent c.requires.right.0 c.requires.right.1).entry)
