@@ -83,5 +83,5 @@ handed_back nothing received copy = []
 abbrev pub HandedItself : {X : Type 0} → Said → Bor X → Bor X → Bor X → Type 0
 HandedItself intact r received copy = r ≡ received
 HandedItself (repaired p) r received copy = r ≡ copy
-HandedItself (several n p) r received copy = r.ptr ≡ received.ptr
-HandedItself nothing r received copy = r.ptr ≡ received.ptr
+HandedItself (several n p) r received copy = r.ref_ptr ≡ received.ref_ptr
+HandedItself nothing r received copy = r.ref_ptr ≡ received.ref_ptr
