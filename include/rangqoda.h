@@ -14,9 +14,9 @@
  * and a repair take less than 18 KiB of stack, a simulation less than 20, and
  * the other calls less than 1.
  *
- * "rt staticlib rangqoda" makes the archive, target/staticlib/librangqoda.a,
- * and proves it first. The test command clears target/, and the archive goes
- * with it: keep a copy beside this header to link with.
+ * "rt lib", in the folder crates/rangqoda of the repository, proves the library
+ * and makes the archive, out/librangqoda.a there. A run of the tests takes it
+ * away and makes it anew: keep a copy beside this header to link with.
  *
  *
  * Terms

@@ -1,10 +1,14 @@
 #!/bin/sh
 # Runs the listing program on each input of tests/list.txt, and on a line that arrives in two pieces, and compares what it
-# prints: tests/list.sh [PROGRAM]. The program is target/bin/list unless another is named. A row has the number of lines, the
-# cksum and the last line, and behind a bar the input, with escapes as printf takes them.
+# prints: tests/list.sh [PROGRAM]. The program is crates/list/out/list unless another is named. A row has the number of lines,
+# the cksum and the last line, and behind a bar the input, with escapes as printf takes them.
 set -eu
 root=$(cd "$(dirname "$0")/.." && pwd)
-program=${1:-$root/target/bin/list}
+program=${1:-$root/crates/list/out/list}
+if ! command -v "$program" >/dev/null; then
+    echo "$program is not there. Make it by this command in the root of the repository: (cd crates/list && rt run <stdin)" >&2
+    exit 1
+fi
 out=$(mktemp)
 trap 'rm -f "$out"' EXIT
 count=0

@@ -1,13 +1,13 @@
 #!/bin/sh
 # Compiles include/rangqoda.h and smoke.c as C11 and as C++17 and the example as C11, with every warning an error, links them
-# with the archive and runs them: tests/c/run.sh [ARCHIVE]. The archive is target/staticlib/librangqoda.a unless another is named.
-# Where the compiler has checks of memory and of undefined behaviour, smoke.c is also run with these.
+# with the archive and runs them: tests/c/run.sh [ARCHIVE]. The archive is crates/rangqoda/out/librangqoda.a unless another is
+# named. Where the compiler has checks of memory and of undefined behaviour, smoke.c is also run with these.
 set -eu
 root=$(cd "$(dirname "$0")/../.." && pwd)
-archive=$(realpath -m "${1:-$root/target/staticlib/librangqoda.a}")
+archive=$(realpath -m "${1:-$root/crates/rangqoda/out/librangqoda.a}")
 cd "$root"
 if [ ! -f "$archive" ]; then
-    echo "$archive is not there. Make it by this command in the root of the repository: rt staticlib rangqoda" >&2
+    echo "$archive is not there. Make it by this command in the root of the repository: (cd crates/rangqoda && rt lib)" >&2
     exit 1
 fi
 work=$(mktemp -d)

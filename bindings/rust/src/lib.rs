@@ -139,9 +139,9 @@
 //!
 //! # The archive
 //!
-//! `rt staticlib rangqoda` makes the archive that this crate links, in `target/staticlib`, and proves it first. The test command
-//! clears `target/`, and the archive goes with it. So keep a copy in a folder of its own, and name that folder by the variable
-//! `RANGQODA_LIB_DIR` when this crate is built.
+//! `rt lib`, in the folder `crates/rangqoda` of the repository, proves the library and makes the archive that this crate links,
+//! `out/librangqoda.a` there. A run of the tests takes it away and makes it anew. So keep a copy in a folder of its own, and name
+//! that folder by the variable `RANGQODA_LIB_DIR` when this crate is built.
 //!
 //! # Example
 //!
