@@ -2,28 +2,34 @@
 // definition `Prints` of the crate lister; here bytes are moved, and nothing else is done.
 #![tactic(auto)]
 
-ghost use Rattle.std.specs.Prelude.{◌≡◌, ◌<◌, ◌≤◌, length};
-ghost use Rattle.lister.specs.Turns.{longest_line, Sound, entries_for, most_entries, Tabled, HasRoom};
+ghost use Rattle.std.specs.Prelude.{◌≡◌, ◌<◌, ◌≤◌, length, IfOk, OnOk, IfSome};
+ghost use Rattle.std.specs.Io.KnownBytes.{Appends};
+ghost use Rattle.lister.specs.Turns.{longest_line, WasRead, printed, text_due, Sound, entries_for, most_entries, Tabled, HasRoom};
+ghost use Rattle.list.specs.Moved.{Listed};
 
-use libc::{STDIN_FILENO, STDOUT_FILENO};
 use lister::{Due, MOST_ENTRIES, Turn};
+use std::io;
+use std::io::{Read, Write};
 
 // Prints what is due, turn by turn.
-fn print_due(due: Due, steps: &[u16], firsts: &[u16], page: &mut [u8], text: &mut [u8])
+fn print_due<W: Write>(
+    out: &mut W,
+    due: Due,
+    steps: &[u16],
+    firsts: &[u16],
+    page: &mut [u8],
+    text: &mut [u8],
+) -> io::Result<()>
     requires { Sound due × Tabled due steps.now firsts.now × HasRoom page.old text.old }
+    ensures { OnOk result (Appends (W.contents out.old) (W.contents out.new) (text_due due)) }
 {
     let mut next = due;
     loop {
         let turn = lister::write_next(next, steps, firsts, page, text);
         match turn {
-            Turn::Last(n) => {
-                io::write_all(STDOUT_FILENO, &text[..n]);
-                return;
-            }
+            Turn::Last(n) => return out.write_all(&text[..n]),
             Turn::More(n, rest) => {
-                if !io::write_all(STDOUT_FILENO, &text[..n]) {
-                    return;
-                }
+                out.write_all(&text[..n])?;
                 next = rest;
             }
         }
@@ -37,21 +43,41 @@ fn page_room() -> [u8; 16384]
     [0; 16384]
 }
 
+// Room for the text of a page.
+fn text_room() -> [u8; 65536]
+    ensures { 65536 ≡ length result }
+{
+    [0; 65536]
+}
+
 // The same with tables that are first built.
-fn print_by(due: Due, steps: &mut [u16], firsts: &mut [u16])
+fn print_by<W: Write>(
+    out: &mut W,
+    due: Due,
+    steps: &mut [u16],
+    firsts: &mut [u16],
+) -> io::Result<()>
     requires { Sound due × (length steps.old ≡ entries_for due) × (length firsts.old ≡ entries_for due) }
+    ensures { OnOk result (Appends (W.contents out.old) (W.contents out.new) (text_due due)) }
 {
     lister::build(due, steps, firsts);
     let mut page = page_room();
-    let mut text = io::large_buffer();
-    print_due(due, steps, firsts, &mut page, &mut text);
+    let mut text = text_room();
+    print_due(out, due, steps, firsts, &mut page, &mut text)
 }
 
 // The same with tables in the first `size` entries.
-fn print_in(due: Due, size: usize, steps: &mut [u16], firsts: &mut [u16])
+fn print_in<W: Write>(
+    out: &mut W,
+    due: Due,
+    size: usize,
+    steps: &mut [u16],
+    firsts: &mut [u16],
+) -> io::Result<()>
     requires { Sound due × (size ≡ entries_for due) × (size ≤ length steps.old) × (size ≤ length firsts.old) }
+    ensures { OnOk result (Appends (W.contents out.old) (W.contents out.new) (text_due due)) }
 {
-    print_by(due, &mut steps[..size], &mut firsts[..size]);
+    print_by(out, due, &mut steps[..size], &mut firsts[..size])
 }
 
 // Room for a table of the greatest degree that is listed.
@@ -61,20 +87,46 @@ fn table() -> [u16; MOST_ENTRIES]
     [0; MOST_ENTRIES]
 }
 
-// Reads the input until it ends or the buffer is full, and judges it.
-fn read_input(buffer: &mut [u8]) -> Due
-    requires { longest_line < length buffer.old }
-    ensures { Sound result }
+// Reads until the buffer is full or the input ends; the answer is how many bytes then stand at the buffer's start.
+fn read_full<R: Read>(input: &mut R, buffer: &mut [u8]) -> io::Result<usize>
+    ensures bound { IfOk result (λ n. n ≤ length buffer.new) }
+    ensures bytes { IfOk result (λ n. IfSome (R.remaining input.old) (λ bytes. WasRead buffer.new n bytes)) }
 {
-    let n = io::read_full(STDIN_FILENO, buffer);
-    lister::begin(buffer, n)
+    let mut done = 0;
+    while done < buffer.len() {
+        let n = input.read(&mut buffer[done..])?;
+        if n == 0 {
+            return Ok(done);
+        }
+        done += n;
+    }
+    Ok(done)
 }
 
-fn main() {
-    let mut input = [0u8; 64];
-    let due = read_input(&mut input);
+// Reads the input until it ends or the buffer is full, and judges it.
+fn read_input<R: Read>(input: &mut R, buffer: &mut [u8]) -> io::Result<Due>
+    requires { longest_line < length buffer.old }
+    ensures text { IfOk result (λ due. IfSome (R.remaining input.old) (λ bytes. text_due due ≡ printed bytes)) }
+    ensures sound { IfOk result (λ due. Sound due) }
+{
+    let n = read_full(input, buffer)?;
+    Ok(lister::begin(buffer, n))
+}
+
+// Reads the whole input, and prints what is due for it.
+fn list<R: Read, W: Write>(input: &mut R, out: &mut W) -> io::Result<()>
+    ensures { OnOk result (IfSome (R.remaining input.old) (λ bytes. Listed bytes (W.contents out.old) (W.contents out.new))) }
+{
+    let mut line = [0u8; 64];
+    let due = read_input(input, &mut line)?;
     let size = lister::entries(due);
     let mut steps = table();
     let mut firsts = table();
-    print_in(due, size, &mut steps, &mut firsts);
+    print_in(out, due, size, &mut steps, &mut firsts)
+}
+
+fn main(rt: HostRuntime) -> io::Result<()> {
+    let mut input = rt.reader();
+    let mut out = io::writer(&rt);
+    list(&mut input, &mut out)
 }

@@ -3,15 +3,13 @@
 
 ghost use Rattle.std.specs.Prelude.{◌^◌, ◌<◌, ◌≤◌, length};
 
+use base::Refusal;
+use patterns::{MOST_POSITIONS, Pattern};
 use std::io;
 use std::io::Read;
 
-use base::Refusal;
-use patterns::{MOST_POSITIONS, Pattern};
-
 // The standard input, or its first bytes where it has more than `most`.
-pub fn read_input(rt: &(impl Input + AllocGlobal), most: u64) -> io::Result<Vec<u8>>
-{
+pub fn read_input(rt: &(impl Input + AllocGlobal), most: u64) -> io::Result<Vec<u8>> {
     let mut text = Vec::new(rt.alloc());
     rt.reader().take(most).read_to_end(&mut text)?;
     Ok(text)
