@@ -219,7 +219,7 @@
  * field of zero for doubtful.
  *
  *
- * How long it takes
+ * How long it takes (measured with version 0.11.0, built by an older Rattle)
  *
  * Each page and each repair verifies both tables: 0.05 ms for degree 16, and
  * half as long with each degree less. Beyond that a repair takes time as
