@@ -1,0 +1,83 @@
+-- `simulate` answers by its conditions and then leaves all that was lent alone; else it is what the simulation comes to.
+use mathlib.Core.Path.{sym, ap, ◌∙◌}
+use Prim.Native.Nat.{ℕ, ◌*◌}
+use native.Mathlib.Omega.{arith}
+use lib.ListN.{length}
+use Rattle.base.specs.Outcome.{refused, accepted}
+use Rattle.base.proofs.JudgeLaws.{turned_down, let_through, none_applies}
+use Rattle.poly.specs.Polynomial.{degree}
+use Rattle.packet.specs.Packet.{crc_of}
+use Rattle.packet.specs.declared.Crc.{Crc}
+use Rattle.packet.proofs.PacketLaws.{fit_length}
+use Rattle.packet.proofs.ReadLaws.{fit_readable}
+use Rattle.checksum.proofs.ConditionLaws.{fit_range, fit_field}
+use Rattle.tables.proofs.TableLaws.{right_unless_wrong}
+use Rattle.patterns.proofs.MarkLaws.{fit_limit}
+use Rattle.trials.specs.Trials.{joined_rows, simulated}
+use Rattle.simulation.specs.Calls.{simulation, simulate_conditions, outcome}
+use Rattle.simulation.proofs.ConditionLaws.{fit_room, fit_trials}
+use Rattle.simulation.proofs.simulate.Goals as goal
+
+pub simulate_by-state-requires : goal.simulate_by-state-requires
+simulate_by-state-requires c =
+    let m = c in
+    let j = m in
+    let s = c in
+    let a = s.args in
+    let n : ℕ = degree a.generator in
+    let p = a.packet.now in
+    let clear = none_applies (simulate_conditions (let a = s.args in simulation (crc_of a.generator a.init a.xorout) a.seed a.check a.limit a.count a.steps.now a.firsts.now a.packet.now a.output.now a.counts.now)) (j.judge_simulate-judged.ensures a.seed) m.in-Passed.is in
+    let right = right_unless_wrong n a.generator a.steps.now a.firsts.now (clear 6) in
+    let readable = fit_readable a.generator a.init a.xorout p (clear 1) (clear 2) (clear 11) in
+    let range = fit_range n (8 * length p) a.check (clear 9) in
+    let field = fit_field a.check (clear 10) in
+    let room = fit_room (length a.output.now) (length p) (length a.counts.now) (clear 8) in
+    rw m.crc_of-crc.ensures (
+      record {
+        fit = readable.fit;
+        init = readable.init;
+        xorout = readable.xorout;
+        long = readable.long;
+        short = omega (arith, (fit_length n (8 * length p) (clear 2)).1);
+        after = field.after;
+        within = field.within;
+        inside = omega (arith, range.whole);
+      },
+      fit_limit a.limit (clear 3),
+      record { fit = readable.fit; right_steps = right.0; right_firsts = right.1 },
+      room.0,
+      room.1,
+      (fit_trials a.count (clear 14)).1,
+    )
+
+pub returns-in-Refused : goal.returns-in-Refused
+returns-in-Refused c =
+    let j = c in
+    let r = simulation (crc_of c.args.generator c.args.init c.args.xorout) c.args.seed c.args.check c.args.limit c.args.count c.args.steps.now c.args.firsts.now c.args.packet.now c.args.output.now c.args.counts.now in
+    let ts = simulate_conditions r in
+    let e = j.judge_simulate-judged.ensures r.seed in
+    let h = c.in-Refused.is in
+    record {
+      answer = sym (turned_down ts e h refused (accepted (outcome r).state));
+      packet = sym (turned_down ts e h (λ _. r.packet) (outcome r).packet);
+      output = sym (turned_down ts e h (λ _. r.output) (outcome r).output);
+      counts = sym (turned_down ts e h (λ _. r.counts) (joined_rows (outcome r).counts));
+    }
+
+pub returns-in-Passed : goal.returns-in-Passed
+returns-in-Passed c =
+    let f = c in
+    let m = f in
+    let j = m in
+    let r = simulation (crc_of c.args.generator c.args.init c.args.xorout) c.args.seed c.args.check c.args.limit c.args.count c.args.steps.now c.args.firsts.now c.args.packet.now c.args.output.now c.args.counts.now in
+    let ts = simulate_conditions r in
+    let e = j.judge_simulate-judged.ensures r.seed in
+    let h = m.in-Passed.is in
+    let by = f.simulate_by-state.ensures in
+    let crc = ap (λ (k : Crc). simulated k r.check r.limit r.trials r.seed r.packet r.output) m.crc_of-crc.ensures in
+    record {
+      answer = ap accepted (by.state ∙ ap (λ t. t.state) crc) ∙ sym (let_through ts e h refused (accepted (outcome r).state));
+      packet = by.packet ∙ ap (λ t. t.packet) crc ∙ sym (let_through ts e h (λ _. r.packet) (outcome r).packet);
+      output = by.output ∙ ap (λ t. t.output) crc ∙ sym (let_through ts e h (λ _. r.output) (outcome r).output);
+      counts = by.counts ∙ ap (λ t. joined_rows t.counts) crc ∙ sym (let_through ts e h (λ _. r.counts) (joined_rows (outcome r).counts));
+    }
