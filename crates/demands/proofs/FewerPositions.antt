@@ -65,5 +65,5 @@ module _ (c : Crc) (k : Check) (limit : ℕ) (s : List ℕ) (supposed : Supposed
         arith,
         many,
         sift-length (λ ps. passes_both c k (flips s ps)) (packet_list c limit s),
-        listing_fits c.generator.degree c.generator.coefficients (bits s) limit (remainder c s) long (fit_limit limit supposed.fit_limit),
+        listing_fits c.generator.degree c.generator.coefficients (bits s) limit (remainder c s) long (omega (arith, fit_limit limit supposed.fit_limit)),
       )

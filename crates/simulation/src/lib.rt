@@ -46,6 +46,7 @@ fn unfit_trials(count: u64) -> bool
 }
 
 // Is an output not as long as the packet, or the place for the counts not of their number?
+#[tactic(auto, unfolding(crate::specs::Calls::unfit_room, repair::specs::Calls::unfit_copy))]
 fn unfit_room(output: usize, packet: usize, counts: usize) -> bool
     ensures { result ≡ unfit_room output packet counts }
 {
