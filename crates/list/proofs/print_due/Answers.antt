@@ -1,0 +1,21 @@
+-- What was printed goes on by what the turn wrote.
+use Rattle.std.proofs.Common.{◌++◌, rules, take, sym, ap, ◌∙◌, append_assoc}
+use Rattle.std.proofs.KnownBytes.{Appends-trans}
+use Rattle.lister.specs.Turns.{text_due}
+use Rattle.list.proofs.print_due.Goals as goal
+
+pub loop-n-preserved : goal.loop-n-preserved
+loop-n-preserved g c =
+    let turn = c.in-More.ensures in
+    let (printed, split, moved) = c.loop-n.invariant.4 in
+    let text = take c.in-More.n c.write_next-turn.new.text in (
+      turn.3,
+      turn.4,
+      search rules,
+      search rules,
+      (
+        printed ++ text,
+        split ∙ ap (λ l. printed ++ l) turn.0 ∙ sym (append_assoc printed text (text_due c.in-More.rest)),
+        Appends-trans _ _ _ _ _ moved c.in_ok-write_all-in-More.ensures.bytes,
+      ),
+    )
