@@ -1,6 +1,6 @@
 -- The number that each C function returns tells what came of its call: 0 just where the call is accepted, and else the number of the
 -- refusal, which is never 0. The functions that return no such number are `rangqoda_sum` and `rangqoda_publish`.
-use mathlib.Core.Path.{◌≡◌, refl, sym, ap, ◌∙◌}
+use mathlib.Core.Path.{◌≡◌, refl, sym, ap}
 use mathlib.Core.Bool.{Bool, true, true≢false, ◌&&◌}
 use mathlib.Core.List.{List, [], ◌∷◌}
 use Prim.Native.Nat.{ℕ, ◌≤◌}
