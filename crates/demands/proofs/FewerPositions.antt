@@ -1,5 +1,5 @@
 -- What the most positions of a pattern decide, of the calls. At a limit within fewer positions a page and a repair are what they would be
--- if patterns held no more than these; and with six, Several's number fits 64 bits.
+-- if patterns held no more than these; and Several's number fits 64 bits.
 use mathlib.Core.Path.{◌≡◌, refl}
 use mathlib.Core.List.{List}
 use Prim.Native.Nat.{ℕ, ◌+◌, ◌*◌, ◌^◌, ◌<◌, ◌≤◌}

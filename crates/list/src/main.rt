@@ -36,7 +36,7 @@ fn print_due<W: Write>(
     }
 }
 
-// Room for a page, whose text fits into a large buffer.
+// Room for a page, whose text fits into the room for it.
 fn page_room() -> [u8; 16384]
     ensures { 16384 ≡ length result }
 {

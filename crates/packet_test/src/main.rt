@@ -76,6 +76,7 @@ fn cases(rt: &impl Print, text: &[u8]) -> io::Result<()> {
 }
 
 fn main(rt: HostRuntime) -> io::Result<()> {
-    let text = testkit::read_input(&rt, 131072)?;
-    cases(&rt, text.as_slice())
+    let mut text = [0u8; 131072];
+    let n = testkit::read_full(&mut rt.reader(), &mut text)?;
+    cases(&rt, &text[..n])
 }

@@ -274,6 +274,7 @@ fn answer(rt: &impl Print, text: &[u8]) -> io::Result<()> {
 }
 
 fn main(rt: HostRuntime) -> io::Result<()> {
-    let text = testkit::read_input(&rt, 196608)?;
-    answer(&rt, text.as_slice())
+    let mut text = [0u8; 196608];
+    let n = testkit::read_full(&mut rt.reader(), &mut text)?;
+    answer(&rt, &text[..n])
 }
