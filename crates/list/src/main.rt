@@ -2,10 +2,11 @@
 // definition `Prints` of the crate lister; here bytes are moved, and nothing else is done.
 #![tactic(auto)]
 
-ghost use Rattle.std.specs.Prelude.{◌≡◌, ◌<◌, ◌≤◌, length, IfOk, OnOk, IfSome};
+ghost use Rattle.std.specs.Prelude.{◌≡◌, ◌<◌, ◌≤◌, length, IfOk, OnOk, OnErr, IfSome};
 ghost use Rattle.std.specs.Io.KnownBytes.{Appends};
-ghost use Rattle.lister.specs.Turns.{longest_line, WasRead, printed, text_due, Sound, entries_for, most_entries, Tabled, HasRoom};
-ghost use Rattle.list.specs.Moved.{Listed};
+ghost use Rattle.lister.specs.Turns.{longest_line, printed, text_due, Sound, entries_for, most_entries, Tabled, HasRoom};
+ghost use Rattle.streams.specs.Streams.{ReadSome, WroteSome};
+ghost use Rattle.list.specs.Moved.{Listed, ListedSome};
 
 use lister::{Due, MOST_ENTRIES, Turn};
 use std::io;
@@ -21,15 +22,16 @@ fn print_due<W: Write>(
     text: &mut [u8],
 ) -> io::Result<()>
     requires { Sound due × Tabled due steps.now firsts.now × HasRoom page.old text.old }
-    ensures { OnOk result (Appends (W.contents out.old) (W.contents out.new) (text_due due)) }
+    ensures ok { OnOk result (Appends (W.contents out.old) (W.contents out.new) (text_due due)) }
+    ensures err { OnErr result (WroteSome (W.contents out.old) (W.contents out.new) (text_due due)) }
 {
     let mut next = due;
     loop {
         let turn = lister::write_next(next, steps, firsts, page, text);
         match turn {
-            Turn::Last(n) => return out.write_all(&text[..n]),
+            Turn::Last(n) => return streams::write_all(out, &text[..n]),
             Turn::More(n, rest) => {
-                out.write_all(&text[..n])?;
+                streams::write_all(out, &text[..n])?;
                 next = rest;
             }
         }
@@ -58,7 +60,8 @@ fn print_by<W: Write>(
     firsts: &mut [u16],
 ) -> io::Result<()>
     requires { Sound due × (length steps.old ≡ entries_for due) × (length firsts.old ≡ entries_for due) }
-    ensures { OnOk result (Appends (W.contents out.old) (W.contents out.new) (text_due due)) }
+    ensures ok { OnOk result (Appends (W.contents out.old) (W.contents out.new) (text_due due)) }
+    ensures err { OnErr result (WroteSome (W.contents out.old) (W.contents out.new) (text_due due)) }
 {
     lister::build(due, steps, firsts);
     let mut page = page_room();
@@ -75,7 +78,8 @@ fn print_in<W: Write>(
     firsts: &mut [u16],
 ) -> io::Result<()>
     requires { Sound due × (size ≡ entries_for due) × (size ≤ length steps.old) × (size ≤ length firsts.old) }
-    ensures { OnOk result (Appends (W.contents out.old) (W.contents out.new) (text_due due)) }
+    ensures ok { OnOk result (Appends (W.contents out.old) (W.contents out.new) (text_due due)) }
+    ensures err { OnErr result (WroteSome (W.contents out.old) (W.contents out.new) (text_due due)) }
 {
     print_by(out, due, &mut steps[..size], &mut firsts[..size])
 }
@@ -87,35 +91,21 @@ fn table() -> [u16; MOST_ENTRIES]
     [0; MOST_ENTRIES]
 }
 
-// Reads until the buffer is full or the input ends; the answer is how many bytes then stand at the buffer's start.
-fn read_full<R: Read>(input: &mut R, buffer: &mut [u8]) -> io::Result<usize>
-    ensures bound { IfOk result (λ n. n ≤ length buffer.new) }
-    ensures bytes { IfOk result (λ n. IfSome (R.remaining input.old) (λ bytes. WasRead buffer.new n bytes)) }
-{
-    let mut done = 0;
-    while done < buffer.len() {
-        let n = input.read(&mut buffer[done..])?;
-        if n == 0 {
-            return Ok(done);
-        }
-        done += n;
-    }
-    Ok(done)
-}
-
 // Reads the input until it ends or the buffer is full, and judges it.
 fn read_input<R: Read>(input: &mut R, buffer: &mut [u8]) -> io::Result<Due>
     requires { longest_line < length buffer.old }
     ensures text { IfOk result (λ due. IfSome (R.remaining input.old) (λ bytes. text_due due ≡ printed bytes)) }
     ensures sound { IfOk result (λ due. Sound due) }
+    ensures err { OnErr result (ReadSome (R.remaining input.old) (R.remaining input.new) buffer.new) }
 {
-    let n = read_full(input, buffer)?;
+    let n = streams::read_full(input, buffer)?;
     Ok(lister::begin(buffer, n))
 }
 
 // Reads the whole input, and prints what is due for it.
 fn list<R: Read, W: Write>(input: &mut R, out: &mut W) -> io::Result<()>
-    ensures { OnOk result (IfSome (R.remaining input.old) (λ bytes. Listed bytes (W.contents out.old) (W.contents out.new))) }
+    ensures ok { OnOk result (IfSome (R.remaining input.old) (λ bytes. Listed bytes (W.contents out.old) (W.contents out.new))) }
+    ensures err { OnErr result (IfSome (R.remaining input.old) (λ bytes. ListedSome bytes (W.contents out.old) (W.contents out.new))) }
 {
     let mut line = [0u8; 64];
     let due = read_input(input, &mut line)?;

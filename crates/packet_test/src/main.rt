@@ -77,6 +77,6 @@ fn cases(rt: &impl Print, text: &[u8]) -> io::Result<()> {
 
 fn main(rt: HostRuntime) -> io::Result<()> {
     let mut text = [0u8; 131072];
-    let n = testkit::read_full(&mut rt.reader(), &mut text)?;
+    let n = streams::read_full(&mut rt.reader(), &mut text)?;
     cases(&rt, &text[..n])
 }

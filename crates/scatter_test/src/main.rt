@@ -75,6 +75,6 @@ fn answer(rt: &impl Print, text: &[u8]) -> io::Result<()> {
 
 fn main(rt: HostRuntime) -> io::Result<()> {
     let mut text = [0u8; 65536];
-    let n = testkit::read_full(&mut rt.reader(), &mut text)?;
+    let n = streams::read_full(&mut rt.reader(), &mut text)?;
     answer(&rt, &text[..n])
 }

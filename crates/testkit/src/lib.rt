@@ -1,27 +1,11 @@
-// What the test programs share: the input, numbers of a text, bytes from a seed, a hash, tables with a change, and printing.
+// What the test programs share: numbers of a text, bytes from a seed, a hash, tables with a change, and printing.
 #![tactic(auto)]
 
-ghost use Rattle.std.specs.Prelude.{◌^◌, ◌<◌, ◌≤◌, length, IfOk};
+ghost use Rattle.std.specs.Prelude.{◌^◌, ◌<◌, ◌≤◌, length};
 
 use base::Refusal;
 use patterns::{MOST_POSITIONS, Pattern};
 use std::io;
-use std::io::Read;
-
-// Reads until the buffer is full or the input ends; the answer is how many bytes then stand at the buffer's start.
-pub fn read_full<R: Read>(input: &mut R, buffer: &mut [u8]) -> io::Result<usize>
-    ensures { IfOk result (λ n. n ≤ length buffer.new) }
-{
-    let mut done = 0;
-    while done < buffer.len() {
-        let n = input.read(&mut buffer[done..])?;
-        if n == 0 {
-            return Ok(done);
-        }
-        done += n;
-    }
-    Ok(done)
-}
 
 // A number that was read from a text, and the place behind its last digit.
 #[derive(Clone, Copy)]
