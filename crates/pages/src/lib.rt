@@ -27,6 +27,7 @@ fn unfit_output(room: usize) -> bool
 }
 
 // The conditions of a page, in their order.
+#[tactic(auto, using(tables::proofs::TableLaws::not_wrong))]
 fn judge_page(
     generator: u64,
     bits: usize,
