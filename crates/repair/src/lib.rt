@@ -44,6 +44,7 @@ fn unfit_check_field(check: Check) -> bool
 }
 
 // The conditions on CRC, length, limit and tables, in their order; a repair begins with these.
+#[tactic(auto, using(tables::proofs::TableLaws::not_wrong))]
 pub fn judge_settings(
     generator: u64,
     init: u64,
@@ -73,6 +74,7 @@ pub fn judge_settings(
 }
 
 // The conditions of a repair, in their order.
+#[tactic(auto, using(crate::proofs::ConditionLaws::copy_unfit, crate::proofs::ConditionLaws::copy_fit))]
 fn judge_repair(
     generator: u64,
     init: u64,
