@@ -33,13 +33,7 @@ const MOST: usize = 64;
 fn unfit_side(n: usize) -> bool
     ensures { result ≡ unfit_side n }
 {
-    if n < 1 {
-        return true;
-    }
-    if MOST < n {
-        return true;
-    }
-    false
+    n < 1 || MOST < n
 }
 
 // Condition 12.
@@ -47,10 +41,7 @@ fn unfit_side(n: usize) -> bool
 fn unfit_shape(rows: usize, columns: usize) -> bool
     ensures { result ≡ unfit_shape rows columns }
 {
-    if unfit_side(rows) {
-        return true;
-    }
-    unfit_side(columns)
+    unfit_side(rows) || unfit_side(columns)
 }
 
 // Condition 13, of a shape that was judged: its product fits.
@@ -60,13 +51,7 @@ fn unfit_lengths(rows: usize, columns: usize, input: usize, output: usize) -> bo
     ensures { result ≡ unfit_lengths rows columns input output }
 {
     let bytes = rows * columns;
-    if input != bytes {
-        return true;
-    }
-    if output != bytes {
-        return true;
-    }
-    false
+    input != bytes || output != bytes
 }
 
 // The conditions of both calls, in their order.
@@ -87,14 +72,8 @@ fn read_column(rows: usize, columns: usize, column: usize, input: &[u8], output:
     requires { Block rows columns input.now × (column < columns) × Part (scattered rows columns input.now) (column * rows) output.old }
     ensures { Part (scattered rows columns input.now) (column * rows + rows) output.new }
 {
-    let mut from = column;
-    let mut to = column * rows;
-    let mut row: usize = 0;
-    while row < rows {
-        output[to] = input[from];
-        from += columns;
-        to += 1;
-        row += 1;
+    for row in 0..rows {
+        output[column * rows + row] = input[row * columns + column];
     }
 }
 
@@ -103,10 +82,8 @@ fn read_columns(rows: usize, columns: usize, input: &[u8], output: &mut [u8])
     requires { Block rows columns input.now × (length output.old ≡ rows * columns) }
     ensures { output.new ≡ scattered rows columns input.now }
 {
-    let mut column: usize = 0;
-    while column < columns {
+    for column in 0..columns {
         read_column(rows, columns, column, input, output);
-        column += 1;
     }
 }
 
