@@ -9,10 +9,11 @@ use borrow.Author.Tests.{eqb-true}
 use lib.Dec.{eqb}
 use Rattle.base.specs.Outcome.{Outcome, refused, accepted, Condition, pick, judge, earlier}
 use Rattle.base.specs.Refusals.{number}
-use Rattle.base.specs.Judged.{judgement, judged}
+use Rattle.base.specs.Answers.{outcome}
+use Rattle.base.specs.Judged.{judged}
 use Rattle.base.specs.declared.Refusal.{Refusal}
-use Rattle.base.specs.declared.Judgement.{Judgement}
-use Rattle.base.specs.declared.Judgement.TheVariants.{Passed, Refused}
+use Rattle.std.specs.declared.result.Result.{Result}
+use Rattle.std.specs.declared.result.Result.TheVariants.{Ok, Err}
 use Rattle.base.proofs.Cases.{by_test}
 
 -- whether the condition of number k applies, among some conditions
@@ -70,15 +71,15 @@ module _ {A : Type 0} where
 
 -- ---- the judgement r on conditions ts, by its case ----
 
-module _ (ts : List Condition) {r : Judgement} (e : judgement r ≡ judged ts) where
-  pub turned_down : {R : Type 0} {q : Refusal} → r ≡ Refused q → (turned : ℕ → R) (done : R) → judge ts turned done ≡ turned (number q)
-  turned_down h turned done = judge_refused ts tt _ turned done (sym e ∙ ap judgement h)
+module _ (ts : List Condition) {r : Result (Unit {0}) Refusal} (e : outcome r ≡ judged ts) where
+  pub turned_down : {R : Type 0} {q : Refusal} → r ≡ Err q → (turned : ℕ → R) (done : R) → judge ts turned done ≡ turned (number q)
+  turned_down h turned done = judge_refused ts tt _ turned done (sym e ∙ ap outcome h)
 
-  pub let_through : {R : Type 0} → r ≡ Passed → (turned : ℕ → R) (done : R) → judge ts turned done ≡ done
-  let_through h turned done = judge_accepted ts tt tt turned done (sym e ∙ ap judgement h)
+  pub let_through : {R : Type 0} → r ≡ Ok tt → (turned : ℕ → R) (done : R) → judge ts turned done ≡ done
+  let_through h turned done = judge_accepted ts tt tt turned done (sym e ∙ ap outcome h)
 
-  pub none_applies : r ≡ Passed → (k : ℕ) → applied k ts ≡ false
-  none_applies h = judge_clear ts tt tt (sym e ∙ ap judgement h)
+  pub none_applies : r ≡ Ok tt → (k : ℕ) → applied k ts ≡ false
+  none_applies h = judge_clear ts tt tt (sym e ∙ ap outcome h)
 
 -- ---- conditions tested one after the other: x is the answer of a test, and t the condition that it decides ----
 

@@ -1,4 +1,5 @@
 pub mod Refusals
 pub mod Outcome
+pub mod Answers
 pub mod Lists
 pub mod Judged
