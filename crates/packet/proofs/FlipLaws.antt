@@ -2,16 +2,17 @@
 use mathlib.Core.Path.{◌≡◌, refl, sym, ap, ap₂, ◌∙◌}
 use mathlib.Core.Logic.{◌≢◌}
 use mathlib.Core.List.{List, [], ◌∷◌, ◌++◌}
-use Prim.Native.Nat.{ℕ, zero, suc, ◌+◌, ◌-◌, ◌*◌, ◌/◌, ◌%◌, ◌^◌, ◌<◌}
+use Prim.Native.Nat.{ℕ, zero, suc, ◌+◌, ◌-◌, ◌*◌, ◌/◌, ◌%◌, ◌^◌, ◌<◌, ◌≤◌}
 use native.Mathlib.Omega.{arith}
+use native.Mathlib.Numerals.{add-one}
 use native.Mathlib.Nat.{add-zero, zero-add, mul_assoc, mul_comm, add-mul, pow-suc}
 use lib.Bits.{bit_xor, xor_block, xor_lt, xor_zero_r}
 use borrow.Author.Tests.{eqb-true, eqb-false}
 use lib.Dec.{eqb}
-use lib.ListN.{length, get_or, take, drop, set, length-set, length-drop}
+use lib.ListN.{length, get_or, take, drop, set, length-set, length-drop, drop_of_length-le}
 use lib.Pow.{pow-add, pow_pos, pow-lt, shr-shr, high, low, field, mod-mod-pow}
 use lib.Arith.{digits_lt}
-use lib.Seq.{set_split, set-get_or, get_or-drop, get_or-set_same, get_or-set_other}
+use lib.Seq.{drop-cons, set_split, set-get_or, get_or-drop, get_or-set_same, get_or-set_other}
 use Rattle.base.specs.Lists.{All, none, each}
 use Rattle.base.proofs.Cases.{by_test, by_equal}
 use Rattle.base.proofs.XorLaws.{xor_assoc, xor_other}
@@ -183,6 +184,13 @@ flips_nil s = refl
 pub flips_cons : (s : List ℕ) (p : ℕ) (ps : List ℕ) → flips s (p ∷ ps) ≡ flips (flip s p) ps
 unfolding flips
 flips_cons s p ps = refl
+
+-- those that are left at one place, and where none is left
+pub flips_turn : (s ps : List ℕ) (i : ℕ) → i < length ps → flips (flip s (get_or ps i 0)) (drop (i + 1) ps) ≡ flips s (drop i ps)
+flips_turn s ps i h = rw (add-one i, drop-cons ps i 0 h) (sym (flips_cons s (get_or ps i 0) (drop (suc i) ps)))
+
+pub flips_end : (s ps : List ℕ) (i : ℕ) → length ps ≤ i → flips s (drop i ps) ≡ s
+flips_end s ps i h = ap (flips s) (drop_of_length-le ps {i = i} h) ∙ flips_nil s
 
 pub flips-length : (s ps : List ℕ) → length (flips s ps) ≡ length s
 unfolding flips

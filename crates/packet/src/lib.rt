@@ -24,52 +24,55 @@ pub struct Crc {
     pub xorout: u64,
 }
 
+// The three numbers that a call gives its CRC by, whether they are accepted or not.
+#[derive(Clone, Copy)]
+pub struct CrcNumbers {
+    pub generator: u64,
+    pub init: u64,
+    pub xorout: u64,
+}
+
+impl From<CrcNumbers> for Crc {
+    fn from(n: CrcNumbers) -> Crc
+        ensures { result ≡ crc_of n.generator n.init n.xorout }
+    {
+        Crc {
+            generator: Generator::of(n.generator),
+            init: n.init,
+            xorout: n.xorout,
+        }
+    }
+}
+
 // The longest packet, in bytes; the definitions count its bits.
 pub const MOST_BYTES: usize = 512;
 
 pub const MOST_BITS: usize = 8 * MOST_BYTES;
 
-// What a CRC is taken by, from the numbers given, whether they are accepted or not.
-pub fn crc_of(generator: u64, init: u64, xorout: u64) -> Crc
-    ensures { result ≡ crc_of generator init xorout }
-{
-    let made = Generator::of(generator);
-    Crc {
-        generator: made,
-        init,
-        xorout,
-    }
-}
-
 // Condition 2, for `bits` bits.
+#[tactic(auto, using(crate::proofs::PacketLaws::short_unfit, crate::proofs::PacketLaws::longer_unfit))]
 pub fn unfit_bits(g: Generator, bits: usize) -> bool
     ensures { result ≡ unfit_length g.degree bits }
 {
-    if bits <= g.degree as usize {
-        return true;
-    }
-    MOST_BITS < bits
+    bits <= g.degree as usize || MOST_BITS < bits
 }
 
 // The same for a packet of `len` bytes, of any number.
+#[tactic(auto, using(crate::proofs::PacketLaws::long_unfit))]
 pub fn unfit_bytes(g: Generator, len: usize) -> bool
     ensures { result ≡ unfit_length g.degree (8 * len) }
 {
-    if MOST_BYTES < len {
-        return true;
-    }
-    unfit_bits(g, 8 * len)
+    MOST_BYTES < len || unfit_bits(g, 8 * len)
 }
 
 // Condition 11.
+#[tactic(auto, using(crate::proofs::PacketLaws::init_unfit, crate::proofs::PacketLaws::xorout_unfit, poly::proofs::GeneratorLaws::shift_one))]
 pub fn unfit_values(g: Generator, init: u64, xorout: u64) -> bool
     requires { Fit g }
     ensures { result ≡ unfit_values g.degree init xorout }
 {
-    if 1u64 << g.degree <= init {
-        return true;
-    }
-    1u64 << g.degree <= xorout
+    let above = 1u64 << g.degree;
+    above <= init || above <= xorout
 }
 
 // The bit at a position.
@@ -95,9 +98,7 @@ pub fn flip_bits(packet: &mut [u8], pos: &[u16])
     requires { All (λ (p : ℕ). p < bits packet.old) pos.now }
     ensures { packet.new ≡ flips packet.old pos.now }
 {
-    let mut i: usize = 0;
-    while i < pos.len() {
-        flip_bit(packet, pos[i] as usize);
-        i += 1;
+    for p in pos {
+        flip_bit(packet, *p as usize);
     }
 }
