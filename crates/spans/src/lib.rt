@@ -14,16 +14,13 @@ fn two_of_span(pow: &[u32], span: usize, from: usize, u: usize, pos: &mut [u16])
     requires { (length pow.now ≤ 4096) × (length pos.old ≡ 2) × (1 ≤ span) × (span ≤ length pow.now) × (from ≤ length pow.now) }
     ensures { (power : ℕ → ℕ) → ((p : ℕ) → p < length pow.now → get_or pow.now p 0 ≡ power p) → Finds before (OfSpan power (length pow.now) 0 u span from) result pos.new }
 {
-    let l = pow.len();
-    let mut a = from;
-    while a + span < l {
+    for a in from..pow.len() - span {
         let b = a + span;
         if (pow[a] ^ pow[b]) as usize == u {
             pos[0] = a as u16;
             pos[1] = b as u16;
             return true;
         }
-        a += 1;
     }
     false
 }
@@ -41,9 +38,7 @@ fn three_of_span(
     requires { Ready pow.now first.now period 0 u × (length pos.old ≡ 3) × (1 ≤ span) × (span ≤ length pow.now) × (from ≤ length pow.now) }
     ensures { (power : ℕ → ℕ) → Lookup power pow.now first.now period → Finds before (OfSpan power (length pow.now) 1 u span from) result pos.new }
 {
-    let l = pow.len();
-    let mut b = from + span;
-    while b < l {
+    for b in from + span..pow.len() {
         let a = b - span;
         let v = u ^ ((pow[a] ^ pow[b]) as usize);
         let c = placing::nearest_below(pow, first, period, a + 1, b, v);
@@ -53,7 +48,6 @@ fn three_of_span(
             pos[2] = b as u16;
             return true;
         }
-        b += 1;
     }
     false
 }
@@ -71,10 +65,8 @@ fn more_of_span(
     requires { Ready pow.now first.now period 0 u × (2 ≤ length pos.old) × (1 ≤ span) × (span ≤ length pow.now) × (from ≤ length pow.now) }
     ensures { (power : ℕ → ℕ) → Lookup power pow.now first.now period → Finds before (OfSpan power (length pow.now) (length pos.old - 2) u span from) result pos.new }
 {
-    let l = pow.len();
     let n = pos.len();
-    let mut a = from;
-    while a + span < l {
+    for a in from..pow.len() - span {
         let b = a + span;
         let v = u ^ ((pow[a] ^ pow[b]) as usize);
         if placing::place(&pow[..b], first, period, a + 1, v, &mut pos[1..n - 1]) {
@@ -82,7 +74,6 @@ fn more_of_span(
             pos[n - 1] = b as u16;
             return true;
         }
-        a += 1;
     }
     false
 }

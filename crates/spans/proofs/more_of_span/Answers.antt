@@ -12,7 +12,7 @@ use Rattle.spans.proofs.SpanLaws.{turn_hit, turn_miss, span_past}
 use Rattle.spans.proofs.more_of_span.Goals as goal
 
 pub loop-a-init : goal.loop-a-init
-loop-a-init c = (omega arith, omega arith, refl, refl, refl, λ power t r x f. f)
+loop-a-init c = (refl, refl, λ power t r x f. f)
 
 pub slice_bounds-place-end : goal.slice_bounds-place-end
 slice_bounds-place-end c =
@@ -37,7 +37,7 @@ bounds-pos-n c =
     let i = c.loop-a in
     let p = c.place in
     let e = same_len_mid 1 (length c.args.pos.now - 1 - 1) i.pos p.new.pos p.auto.pos in
-    simp length-set (omega (arith, e, i.invariant.2))
+    simp length-set (omega (arith, e, i.invariant.0))
 
 pub returns-then-place : goal.returns-then-place
 returns-then-place c power t =
@@ -48,9 +48,9 @@ returns-then-place c power t =
     let n = length c.args.pos.now in
     let d = c.args.span in
     let h : i.a + d ≤ l = omega arith in
-    let room : length (mid_of 1 (n - 1 - 1) i.pos) ≡ n - 2 = mid_len 1 (n - 1) i.pos (omega (arith, i.invariant.2)) ∙ omega arith in
-    rw (part_framed i.pos ys n i.a (i.a + d) i.invariant.2 (omega (arith, p.auto.pos, room)))
-    (i.invariant.5 power t true _
+    let room : length (mid_of 1 (n - 1 - 1) i.pos) ≡ n - 2 = mid_len 1 (n - 1) i.pos (omega (arith, i.invariant.0)) ∙ omega arith in
+    rw (part_framed i.pos ys n i.a (i.a + d) i.invariant.0 (omega (arith, p.auto.pos, room)))
+    (i.invariant.2 power t true _
     (turn_hit power (n - 2) c.args.u l i.a (i.a + d) d refl (omega arith) _ _ _ _ (length-take-le (i.a + d) c.args.pow.now h) room (omega arith)
     (left_known t c.args.u i.a (i.a + d) (omega arith) (omega arith))
     p.result ys (p.ensures power (lookup_front t (i.a + d) h)) c.if-place.true (omega arith)))
@@ -64,14 +64,11 @@ loop-a-preserved c =
     let n = length c.args.pos.now in
     let d = c.args.span in
     let h : i.a + d ≤ l = omega arith in
-    let room : length (mid_of 1 (n - 1 - 1) i.pos) ≡ n - 2 = mid_len 1 (n - 1) i.pos (omega (arith, i.invariant.2)) ∙ omega arith in (
-      omega arith,
-      omega arith,
-      same_len_mid 1 (n - 1 - 1) i.pos ys p.auto.pos ∙ i.invariant.2,
-      refl,
+    let room : length (mid_of 1 (n - 1 - 1) i.pos) ≡ n - 2 = mid_len 1 (n - 1) i.pos (omega (arith, i.invariant.0)) ∙ omega arith in (
+      same_len_mid 1 (n - 1 - 1) i.pos ys p.auto.pos ∙ i.invariant.0,
       refl,
       λ power t r x f.
-          i.invariant.5 power t r x
+          i.invariant.2 power t r x
           (turn_miss power (n - 2) c.args.u l i.a (i.a + d) d refl (omega arith) _ _ _ _ (length-take-le (i.a + d) c.args.pow.now h) room (omega arith)
           (left_known t c.args.u i.a (i.a + d) (omega arith) (omega arith))
           p.result ys (p.ensures power (lookup_front t (i.a + d) h)) c.if-place.false r x f),
@@ -79,5 +76,5 @@ loop-a-preserved c =
 
 pub returns : goal.returns
 returns c power t =
-    c.loop-a.invariant.5 power t false c.loop-a.pos
+    c.loop-a.invariant.2 power t false c.loop-a.pos
     (span_past power (length c.args.pos.now - 2) c.args.u (length c.args.pow.now) c.args.span c.loop-a.a (omega arith))

@@ -2,7 +2,7 @@
 use mathlib.Core.Path.{◌≡◌}
 use mathlib.Core.Bool.{Bool}
 use mathlib.Core.List.{List}
-use Prim.Native.Nat.{ℕ, ◌-◌, ◌≤◌}
+use Prim.Native.Nat.{ℕ, ◌-◌}
 use lib.ListN.{length}
 use Rattle.patterns.specs.Order.{before}
 use Rattle.placing.specs.Placing.{Lookup}
@@ -11,10 +11,6 @@ use Rattle.spans.proofs.more_of_span.Given as goal
 
 abbrev pub invariant-loop-a : goal.invariant-loop-a
 invariant-loop-a l =
-    (l.from ≤ l.a) × (l.a ≤ length l.pow) × (length l.pos ≡ length l.initial.pos) × (l.l ≡ length l.pow) × (l.n ≡ length l.initial.pos)
+    (length l.pos ≡ length l.initial.pos) × (l.n ≡ length l.initial.pos)
     × ((power : ℕ → ℕ) → Lookup power l.pow l.first l.period → (r : Bool) (x : List ℕ)
     → Finds before (OfSpan power (length l.pow) (length l.initial.pos - 2) l.u l.span l.a) r x → Finds before (OfSpan power (length l.pow) (length l.initial.pos - 2) l.u l.span l.from) r x)
-
-abbrev pub decreases-loop-a : goal.decreases-loop-a
-decreases-loop-a l =
-    length l.pow - l.a

@@ -14,7 +14,7 @@ use Rattle.spans.proofs.three_of_span.Goals as goal
 pub loop-b-init : goal.loop-b-init
 loop-b-init c =
     let e : c.args.from + c.args.span - c.args.span ≡ c.args.from = omega arith in
-    (omega arith, c.requires.1, λ power t r x f. rw e at f)
+    (c.requires.1, λ power t r x f. rw e at f)
 
 pub overflow_cast-v : goal.overflow_cast-v
 overflow_cast-v c =
@@ -41,8 +41,8 @@ returns-then-c-b c power t =
     let p = c.nearest_below-c in
     let d = c.args.span in
     let a : ℕ = i.b - d in
-    rw (set_three i.pos a p.result i.b i.invariant.1)
-    (i.invariant.2 power t true _
+    rw (set_three i.pos a p.result i.b i.invariant.0)
+    (i.invariant.1 power t true _
     (three_hit power (length c.args.pow.now) c.args.u a i.b d (omega arith) c.requires.2 _ _ (omega arith) (left_known t c.args.u a i.b (omega arith) (omega arith))
     p.result (p.ensures power t) (omega (arith, c.if-c-b.true)) (omega arith)))
 
@@ -53,10 +53,9 @@ loop-b-preserved c =
     let d = c.args.span in
     let a : ℕ = i.b - d in
     let e : i.b + 1 - d ≡ i.b - d + 1 = omega arith in (
-      omega arith,
-      i.invariant.1,
+      i.invariant.0,
       λ power t r x f.
-          i.invariant.2 power t r x
+          i.invariant.1 power t r x
           (three_miss power (length c.args.pow.now) c.args.u a i.b d (omega arith) c.requires.2 _ _ (omega arith) (left_known t c.args.u a i.b (omega arith) (omega arith))
           p.result (p.ensures power t) (omega (arith, c.if-c-b.false)) r x (rw e at f)),
     )
@@ -64,4 +63,4 @@ loop-b-preserved c =
 pub returns : goal.returns
 returns c power t =
     let i = c.loop-b in
-    i.invariant.2 power t false i.pos (span_past power 1 c.args.u (length c.args.pow.now) c.args.span (i.b - c.args.span) (omega arith))
+    i.invariant.1 power t false i.pos (span_past power 1 c.args.u (length c.args.pow.now) c.args.span (i.b - c.args.span) (omega arith))

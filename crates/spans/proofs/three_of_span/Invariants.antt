@@ -3,7 +3,7 @@
 use mathlib.Core.Path.{◌≡◌}
 use mathlib.Core.Bool.{Bool}
 use mathlib.Core.List.{List}
-use Prim.Native.Nat.{ℕ, ◌-◌, ◌≤◌}
+use Prim.Native.Nat.{ℕ, ◌-◌}
 use lib.ListN.{length}
 use Rattle.patterns.specs.Order.{before}
 use Rattle.placing.specs.Placing.{Lookup}
@@ -12,10 +12,6 @@ use Rattle.spans.proofs.three_of_span.Given as goal
 
 abbrev pub invariant-loop-b : goal.invariant-loop-b
 invariant-loop-b l =
-    (l.span ≤ l.b) × (length l.pos ≡ 3)
+    (length l.pos ≡ 3)
     × ((power : ℕ → ℕ) → Lookup power l.pow l.first l.period → (r : Bool) (x : List ℕ)
     → Finds before (OfSpan power (length l.pow) 1 l.u l.span (l.b - l.span)) r x → Finds before (OfSpan power (length l.pow) 1 l.u l.span l.from) r x)
-
-abbrev pub decreases-loop-b : goal.decreases-loop-b
-decreases-loop-b l =
-    length l.pow - l.b

@@ -11,7 +11,7 @@ use Rattle.spans.proofs.SpanLaws.{span_past}
 use Rattle.spans.proofs.two_of_span.Goals as goal
 
 pub loop-a-init : goal.loop-a-init
-loop-a-init c = (omega arith, omega arith, c.requires.1, λ power t r x f. f)
+loop-a-init c = (c.requires.1, λ power t r x f. f)
 
 pub overflow_cast-pow : goal.overflow_cast-pow
 overflow_cast-pow c =
@@ -28,8 +28,8 @@ pub returns-then-pow-a : goal.returns-then-pow-a
 returns-then-pow-a c power t =
     let i = c.loop-a in
     let d = c.args.span in
-    rw (set_two i.pos i.a (i.a + d) i.invariant.2)
-    (i.invariant.3 power t true _
+    rw (set_two i.pos i.a (i.a + d) i.invariant.0)
+    (i.invariant.1 power t true _
     (two_hit power (length c.args.pow.now) c.args.u i.a (i.a + d) d refl c.requires.2
     (sym (ap₂ bit_xor (t i.a (omega arith)) (t (i.a + d) (omega arith))) ∙ c.if-pow-a.true) (omega arith)))
 
@@ -37,16 +37,14 @@ pub loop-a-preserved : goal.loop-a-preserved
 loop-a-preserved c =
     let i = c.loop-a in
     let d = c.args.span in (
-      omega arith,
-      omega arith,
-      i.invariant.2,
+      i.invariant.0,
       λ power t r x f.
-          i.invariant.3 power t r x
+          i.invariant.1 power t r x
           (two_miss power (length c.args.pow.now) c.args.u i.a (i.a + d) d refl c.requires.2
           (λ e. c.if-pow-a.false (ap₂ bit_xor (t i.a (omega arith)) (t (i.a + d) (omega arith)) ∙ e)) r x f),
     )
 
 pub returns : goal.returns
 returns c power t =
-    c.loop-a.invariant.3 power t false c.loop-a.pos
+    c.loop-a.invariant.1 power t false c.loop-a.pos
     (span_past power 0 c.args.u (length c.args.pow.now) c.args.span c.loop-a.a (omega arith))

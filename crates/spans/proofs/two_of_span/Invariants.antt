@@ -2,7 +2,7 @@
 use mathlib.Core.Path.{◌≡◌}
 use mathlib.Core.Bool.{Bool}
 use mathlib.Core.List.{List}
-use Prim.Native.Nat.{ℕ, ◌-◌, ◌<◌, ◌≤◌}
+use Prim.Native.Nat.{ℕ, ◌<◌}
 use lib.ListN.{length, get_or}
 use Rattle.patterns.specs.Order.{before}
 use Rattle.spans.specs.Spans.{Finds, OfSpan}
@@ -10,10 +10,6 @@ use Rattle.spans.proofs.two_of_span.Given as goal
 
 abbrev pub invariant-loop-a : goal.invariant-loop-a
 invariant-loop-a l =
-    (l.from ≤ l.a) × (l.a ≤ length l.pow) × (length l.pos ≡ 2)
+    (length l.pos ≡ 2)
     × ((power : ℕ → ℕ) → ((p : ℕ) → p < length l.pow → get_or l.pow p 0 ≡ power p) → (r : Bool) (x : List ℕ)
     → Finds before (OfSpan power (length l.pow) 0 l.u l.span l.a) r x → Finds before (OfSpan power (length l.pow) 0 l.u l.span l.from) r x)
-
-abbrev pub decreases-loop-a : goal.decreases-loop-a
-decreases-loop-a l =
-    length l.pow - l.a
