@@ -4,7 +4,7 @@ use mathlib.Core.Bool.{Bool, true, false, true≢false, or-true}
 use Prim.Native.Nat.{ℕ, ◌*◌, ◌/◌, ◌%◌, ◌^◌, ◌<◌, ◌≤◌}
 use native.Mathlib.Omega.{arith}
 use native.Mathlib.Nat.{one-mul, mod-eq_of_lt}
-use borrow.Author.Tests.{lt-ltb, le-ltb, eq-eqb, ne_eqb, ltb-true, ltb-false, eqb-true, eqb-false}
+use borrow.Author.Tests.{lt-ltb, eq-eqb, ltb-true, ltb-false, eqb-true, eqb-false}
 use lib.Dec.{eqb, ltb}
 use lib.Pow.{pow_mono}
 use Rattle.base.proofs.Cases.{by_test}
@@ -14,21 +14,17 @@ use Rattle.poly.specs.Generators.{least_degree, greatest_degree, unfit, generato
 use Rattle.poly.specs.Fit.{Fit}
 use Rattle.poly.proofs.DegreeLaws.{degree_of, degree_unique}
 
-pub even_unfit : (g : ℕ) → g % 2 ≡ 0 → unfit g ≡ true
+even_unfit : (g : ℕ) → g % 2 ≡ 0 → unfit g ≡ true
 unfolding unfit
 even_unfit g h = simp (eq-eqb _ _ h)
 
-pub narrow_unfit : (g : ℕ) → degree g < least_degree → unfit g ≡ true
+narrow_unfit : (g : ℕ) → degree g < least_degree → unfit g ≡ true
 unfolding unfit
 narrow_unfit g h = simp (lt-ltb _ _ h, or-true)
 
 wide_unfit : (g : ℕ) → greatest_degree < degree g → unfit g ≡ true
 unfolding unfit
 wide_unfit g h = simp (lt-ltb _ _ h, or-true)
-
-pub odd_unfit : (g : ℕ) → (g % 2 ≡ 0 → ⊥) → least_degree ≤ degree g → unfit g ≡ ltb greatest_degree (degree g)
-unfolding unfit
-odd_unfit g o l = simp (ne_eqb _ _ o, le-ltb _ _ l)
 
 -- a number that condition 1 lets pass is a generator that is fit
 pub fit_accepted : (g : ℕ) → unfit g ≡ false → Fit (generator_of g)

@@ -1,11 +1,8 @@
 -- Which numbers are accepted as generators, those with names, and what making one answers.
 use Rattle.std.specs.Prelude.{ℕ, ◌%◌, Bool, ◌||◌, [], ◌∷◌, eqb, ltb}
 use Rattle.base.specs.Outcome.{Outcome, refused, accepted, when, judge}
-use Rattle.base.specs.Refusals.{number}
 use Rattle.poly.specs.Polynomial.{degree}
 use Rattle.poly.specs.declared.Generator.{Generator}
-use Rattle.poly.specs.declared.Construction.{Construction}
-use Rattle.poly.specs.declared.Construction.TheVariants.{Made, Refused}
 
 -- the degrees that are accepted
 abbrev pub least_degree : ℕ
@@ -30,9 +27,5 @@ abbrev pub ccitt : Generator
 ccitt = generator_of 0x11021
 
 -- the answer of the constructor: refused by its number, or the generator made
-abbrev pub construction : Construction → Outcome Generator
-construction (Made g) = accepted g
-construction (Refused r) = refused (number r)
-
 abbrev pub constructed : ℕ → Outcome Generator
 constructed g = judge (when 1 (unfit g) ∷ []) refused (accepted (generator_of g))

@@ -2,8 +2,9 @@
 #![tactic(auto)]
 
 ghost use Rattle.std.specs.Prelude.{◌≡◌, ◌*◌, ◌^◌, ◌<◌};
+ghost use Rattle.base.specs.Answers.{outcome};
 ghost use Rattle.poly.specs.Polynomial.{rem, reduce};
-ghost use Rattle.poly.specs.Generators.{unfit, construction, constructed, generator_of, five, ccitt};
+ghost use Rattle.poly.specs.Generators.{unfit, constructed, generator_of, five, ccitt};
 ghost use Rattle.poly.specs.Fit.{Fit};
 
 use base::Refusal;
@@ -13,16 +14,10 @@ pub const LEAST_DEGREE: u32 = 3;
 
 pub const GREATEST_DEGREE: u32 = 16;
 
-#[derive(Clone, Copy)]
+#[derive(Clone, Copy, PartialEq, Eq)]
 pub struct Generator {
     pub coefficients: u64,
     pub degree: u32,
-}
-
-#[derive(Clone, Copy)]
-pub enum Construction {
-    Made(Generator),
-    Refused(Refusal),
 }
 
 impl Generator {
@@ -60,35 +55,31 @@ impl Generator {
                 degree: 0,
             };
         }
-        let degree = 63 - u64::leading_zeros(coefficients);
+        let degree = 63 - coefficients.leading_zeros();
         Generator {
             coefficients,
             degree,
         }
     }
 
-    pub fn new(coefficients: u64) -> Construction
-        ensures { construction result ≡ constructed coefficients }
+    // Of an accepted number alone.
+    pub fn new(coefficients: u64) -> Result<Generator, Refusal>
+        ensures { outcome result ≡ constructed coefficients }
     {
         if unfit_generator(coefficients) {
-            return Construction::Refused(Refusal::Generator);
+            return Err(Refusal::Generator);
         }
-        Construction::Made(Generator::of(coefficients))
+        Ok(Generator::of(coefficients))
     }
 }
 
 // Condition 1.
+#[tactic(auto, unfolding(crate::specs::Generators::unfit))]
 pub fn unfit_generator(coefficients: u64) -> bool
     ensures { result ≡ unfit coefficients }
 {
-    if coefficients % 2 == 0 {
-        return true;
-    }
-    let g = Generator::of(coefficients);
-    if g.degree < LEAST_DEGREE {
-        return true;
-    }
-    GREATEST_DEGREE < g.degree
+    let degree = Generator::of(coefficients).degree;
+    coefficients % 2 == 0 || degree < LEAST_DEGREE || GREATEST_DEGREE < degree
 }
 
 // x times the remainder `t`, reduced.
