@@ -14,6 +14,10 @@ ghost use Rattle.tables.specs.Calls.{
   firsts_after,
 };
 
+mod lent;
+
+pub use lent::Tables;
+
 use base::{Judgement, Refusal};
 use poly::Generator;
 
@@ -30,20 +34,8 @@ fn fill_steps(g: Generator, steps: &mut [u16])
     requires { Lent g steps.old }
     ensures { steps.new ≡ step_table g.degree g.coefficients }
 {
-    let mut s: usize = 0;
-    while s < steps.len() {
-        steps[s] = poly::back(g, s as u64) as u16;
-        s += 1;
-    }
-}
-
-fn clear(firsts: &mut [u16])
-    ensures { firsts.new ≡ replicate (length firsts.old) 65535 }
-{
-    let mut s: usize = 0;
-    while s < firsts.len() {
-        firsts[s] = ABSENT;
-        s += 1;
+    for (s, step) in steps.iter_mut().enumerate() {
+        *step = poly::back(g, s as u64) as u16;
     }
 }
 
@@ -55,37 +47,42 @@ fn walk(g: Generator, firsts: &mut [u16]) -> u64
 {
     let mut t: u64 = 1;
     let mut p: u64 = 0;
-    let c = loop {
+    // A `for` would name an end that is never reached: it is remainder 1 that ends the walk.
+    loop {
         firsts[t as usize] = p as u16;
         t = poly::times_x(g, t);
         p += 1;
         if t == 1 {
             break p;
         }
-    };
-    c
+    }
 }
 
 // Condition 5, by the numbers of entries.
+#[tactic(
+    auto,
+    using(poly::proofs::GeneratorLaws::shift_one),
+    unfolding(crate::specs::Tables::unfit_tables)
+)]
 pub fn unfit_tables(g: Generator, steps: usize, firsts: usize) -> bool
     requires { Fit g }
     ensures { result ≡ unfit_tables g.degree steps firsts }
 {
     let size = 1usize << g.degree;
-    if steps != size {
-        return true;
-    }
-    firsts != size
+    steps != size || firsts != size
 }
 
 // The period, in two look-ups, of tables that are right.
-pub fn period_of(g: Generator, steps: &[u16], firsts: &[u16]) -> u64
-    requires lent { Lent g steps.now }
-    requires right { (steps.now ≡ step_table g.degree g.coefficients) × (firsts.now ≡ first_table g.degree g.coefficients) }
+pub fn period_of(g: Generator, tables: Tables) -> u64
+    requires lent { Lent g tables.steps.now }
+    requires right {
+        (tables.steps.now ≡ step_table g.degree g.coefficients)
+        × (tables.firsts.now ≡ first_table g.degree g.coefficients)
+    }
     ensures { result ≡ period g.degree g.coefficients }
 {
-    let t = steps[1] as usize;
-    firsts[t] as u64 + 1
+    let t = tables.steps[1] as usize;
+    tables.firsts[t] as u64 + 1
 }
 
 // Fills both tables, and yields the period.
@@ -96,7 +93,7 @@ fn build(g: Generator, steps: &mut [u16], firsts: &mut [u16]) -> u64
     ensures firsts_after { firsts.new ≡ first_table g.degree g.coefficients }
 {
     fill_steps(g, steps);
-    clear(firsts);
+    firsts.fill(ABSENT);
     walk(g, firsts)
 }
 

@@ -1,21 +1,9 @@
 -- `fill_steps` stores the step table. The invariant: the entries before s are steps.
-use mathlib.Core.Path.{refl, ◌∙◌}
 use native.Mathlib.Omega.{arith}
-use lib.ListN.{length-set}
-use Rattle.poly.proofs.GeneratorLaws.{fit_small}
 use Rattle.tables.specs.Tables.{step}
 use Rattle.tables.proofs.StepLaws.{step_inverts}
 use Rattle.tables.proofs.TableLaws.{entries_more, step_table_by_entries}
 use Rattle.tables.proofs.fill_steps.Goals as goal
-
-pub loop-s-init : goal.loop-s-init
-loop-s-init c = (omega arith, refl, λ k h. absurd (omega arith))
-
-pub back-requires : goal.back-requires
-back-requires c = let e = c in (e.requires.fit, omega (arith, e.requires.full))
-
-pub overflow_cast-steps : goal.overflow_cast-steps
-overflow_cast-steps c = omega (arith, c.back.ensures.0, fit_small _ c.requires.fit)
 
 pub loop-s-preserved : goal.loop-s-preserved
 loop-s-preserved c =
@@ -24,15 +12,12 @@ loop-s-preserved c =
     let n = e.args.g.degree in
     let g = e.args.g.coefficients in
     let r = c.back.result in
-    let b = c.back.ensures in (
-      omega arith,
-      length-set l.steps l.s r ∙ l.invariant.1,
-      entries_more (step n g) l.steps l.s r (omega arith) l.invariant.2
-          ((step_inverts n g e.requires.fit.divisor l.s (omega (arith, e.requires.full))).only r b.0 b.1),
-    )
+    let b = c.back.ensures in
+    entries_more (step n g) l.steps l.s r (omega arith) l.invariant
+        ((step_inverts n g e.requires.fit.divisor l.s (omega (arith, e.requires.full))).only r b.0 b.1)
 
 pub returns : goal.returns
 returns c =
     let e = c in
-    step_table_by_entries e.args.g.degree e.args.g.coefficients c.loop-s.steps (c.loop-s.invariant.1 ∙ e.requires.full)
-    (λ s b. c.loop-s.invariant.2 s (omega arith))
+    step_table_by_entries e.args.g.degree e.args.g.coefficients c.loop-s.steps (omega (arith, e.requires.full))
+    (λ s b. c.loop-s.invariant s (omega (arith, e.requires.full)))

@@ -35,18 +35,12 @@ looked_up d steps firsts lent as_steps as_firsts =
           ∙ period_from_tables n g lent.fit.divisor small.positive;
     }
 
-pub bounds-steps-1 : goal.bounds-steps-1
-bounds-steps-1 c =
+pub bounds-tables-1 : goal.bounds-tables-1
+bounds-tables-1 c =
     let e = c in omega (arith, fit_small e.args.g e.requires.lent.fit)
 
-pub offset_bounds-firsts-t : goal.offset_bounds-firsts-t
-offset_bounds-firsts-t c = omega (arith, c.shared_slice_known-1.given 1)
-
-pub bounds-firsts-t : goal.bounds-firsts-t
-bounds-firsts-t c = (looked_up c.args.g c.args.steps.now c.args.firsts.now c.requires.lent c.requires.right.0 c.requires.right.1).inside
-
-pub overflow_add-result : goal.overflow_add-result
-overflow_add-result c = omega (arith, c.shared_slice_known-2-1.given (get_or c.args.steps.now 1 0))
+pub bounds-tables-t : goal.bounds-tables-t
+bounds-tables-t c = (looked_up c.args.g c.args.tables.steps.now c.args.tables.firsts.now c.requires.lent c.requires.right.0 c.requires.right.1).inside
 
 pub returns : goal.returns
-returns c = omega (arith, (looked_up c.args.g c.args.steps.now c.args.firsts.now c.requires.lent c.requires.right.0 c.requires.right.1).entry)
+returns c = omega (arith, (looked_up c.args.g c.args.tables.steps.now c.args.tables.firsts.now c.requires.lent c.requires.right.0 c.requires.right.1).entry)
