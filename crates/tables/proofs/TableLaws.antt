@@ -105,17 +105,13 @@ zero_same w a b f h =
     (λ t. ne_eqb w 0 (λ z. true≢false (sym (equal_same a b (f z)) ∙ t)) ∙ sym t)
 
 -- condition 5
-pub unfit_steps : (n : ℕ) (a b : ℕ) → (a ≡ 2 ^ n → ⊥) → unfit_tables n a b ≡ true
+unfit_steps : (n : ℕ) (a b : ℕ) → (a ≡ 2 ^ n → ⊥) → unfit_tables n a b ≡ true
 unfolding unfit_tables
 unfit_steps n a b h = simp (ne_eqb _ _ h)
 
-pub unfit_firsts : (n : ℕ) (a b : ℕ) → (b ≡ 2 ^ n → ⊥) → unfit_tables n a b ≡ true
+unfit_firsts : (n : ℕ) (a b : ℕ) → (b ≡ 2 ^ n → ⊥) → unfit_tables n a b ≡ true
 unfolding unfit_tables
 unfit_firsts n a b h = simp (ne_eqb _ _ h, or-true)
-
-pub fit_steps : (n : ℕ) (a b : ℕ) → a ≡ 2 ^ n → unfit_tables n a b ≡ not (eqb b (2 ^ n))
-unfolding unfit_tables
-fit_steps n a b h = simp (eq-eqb _ _ h)
 
 pub fit_tables : (n : ℕ) (a b : ℕ) → a ≡ 2 ^ n → b ≡ 2 ^ n → unfit_tables n a b ≡ false
 unfolding unfit_tables

@@ -1,14 +1,14 @@
 // The two tables of a generator and its period.
 #![tactic(auto)]
 
-ghost use Rattle.std.specs.Prelude.{◌≡◌, ◌^◌, length, replicate};
-ghost use Rattle.base.specs.Judged.{judgement, judged};
+ghost use Rattle.std.specs.Prelude.{◌≡◌, ◌^◌, replicate};
+ghost use Rattle.base.specs.Answers.{outcome};
+ghost use Rattle.base.specs.Judged.{judged};
 ghost use Rattle.poly.specs.Fit.{Fit};
 ghost use Rattle.tables.specs.Tables.{period, step_table, first_table, unfit_tables};
 ghost use Rattle.tables.specs.Lent.{Lent};
 ghost use Rattle.tables.specs.Calls.{
   tables_conditions,
-  tables_answer,
   tables_call,
   steps_after,
   firsts_after,
@@ -16,16 +16,9 @@ ghost use Rattle.tables.specs.Calls.{
 
 mod lent;
 
+use base::Refusal;
 pub use lent::Tables;
-
-use base::{Judgement, Refusal};
 use poly::Generator;
-
-#[derive(Clone, Copy)]
-pub enum TablesAnswer {
-    Built(u64),
-    Refused(Refusal),
-}
 
 // The entry of a remainder that no power of x leaves.
 pub const ABSENT: u16 = 65535;
@@ -59,11 +52,7 @@ fn walk(g: Generator, firsts: &mut [u16]) -> u64
 }
 
 // Condition 5, by the numbers of entries.
-#[tactic(
-    auto,
-    using(poly::proofs::GeneratorLaws::shift_one),
-    unfolding(crate::specs::Tables::unfit_tables)
-)]
+#[tactic(auto, using(poly::proofs::GeneratorLaws::shift_one), unfolding(crate::specs::Tables::unfit_tables))]
 pub fn unfit_tables(g: Generator, steps: usize, firsts: usize) -> bool
     requires { Fit g }
     ensures { result ≡ unfit_tables g.degree steps firsts }
@@ -75,10 +64,8 @@ pub fn unfit_tables(g: Generator, steps: usize, firsts: usize) -> bool
 // The period, in two look-ups, of tables that are right.
 pub fn period_of(g: Generator, tables: Tables) -> u64
     requires lent { Lent g tables.steps.now }
-    requires right {
-        (tables.steps.now ≡ step_table g.degree g.coefficients)
-        × (tables.firsts.now ≡ first_table g.degree g.coefficients)
-    }
+    requires right { (tables.steps.now ≡ step_table g.degree g.coefficients)
+        × (tables.firsts.now ≡ first_table g.degree g.coefficients) }
     ensures { result ≡ period g.degree g.coefficients }
 {
     let t = tables.steps[1] as usize;
@@ -98,27 +85,24 @@ fn build(g: Generator, steps: &mut [u16], firsts: &mut [u16]) -> u64
 }
 
 // The conditions of the call, in their order, for tables of this many entries.
-fn judge_tables(generator: u64, steps: usize, firsts: usize) -> Judgement
-    ensures { judgement result ≡ judged (tables_conditions generator steps firsts) }
+fn judge_tables(generator: u64, steps: usize, firsts: usize) -> Result<(), Refusal>
+    ensures { outcome result ≡ judged (tables_conditions generator steps firsts) }
 {
     if poly::unfit_generator(generator) {
-        return Judgement::Refused(Refusal::Generator);
+        return Err(Refusal::Generator);
     }
     if unfit_tables(Generator::of(generator), steps, firsts) {
-        return Judgement::Refused(Refusal::TableLength);
+        return Err(Refusal::TableLength);
     }
-    Judgement::Passed
+    Ok(())
 }
 
 // Builds both tables and answers the period.
-pub fn tables(generator: u64, steps: &mut [u16], firsts: &mut [u16]) -> TablesAnswer
-    ensures answer { tables_answer result ≡ tables_call generator steps.old firsts.old }
+pub fn tables(generator: u64, steps: &mut [u16], firsts: &mut [u16]) -> Result<u64, Refusal>
+    ensures answer { outcome result ≡ tables_call generator steps.old firsts.old }
     ensures steps { steps.new ≡ steps_after generator steps.old firsts.old }
     ensures firsts { firsts.new ≡ firsts_after generator steps.old firsts.old }
 {
-    let judged = judge_tables(generator, steps.len(), firsts.len());
-    match judged {
-        Judgement::Refused(r) => TablesAnswer::Refused(r),
-        Judgement::Passed => { TablesAnswer::Built(build(Generator::of(generator), steps, firsts)) }
-    }
+    judge_tables(generator, steps.len(), firsts.len())?;
+    Ok(build(Generator::of(generator), steps, firsts))
 }

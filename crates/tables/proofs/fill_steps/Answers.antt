@@ -14,7 +14,7 @@ loop-s-preserved c =
     let r = c.back.result in
     let b = c.back.ensures in
     entries_more (step n g) l.steps l.s r (omega arith) l.invariant
-        ((step_inverts n g e.requires.fit.divisor l.s (omega (arith, e.requires.full))).only r b.0 b.1)
+    ((step_inverts n g e.requires.fit.divisor l.s (omega (arith, e.requires.full))).only r b.0 b.1)
 
 pub returns : goal.returns
 returns c =
