@@ -1,8 +1,8 @@
 -- Conditions 12 and 13 by their parts, and what is known of a shape and of lengths where neither applies.
 use mathlib.Core.Path.{◌≡◌, refl}
-use mathlib.Core.Bool.{Bool, true, false, not, ◌||◌, true≢false, or-true}
-use Prim.Native.Nat.{ℕ, ◌*◌, ◌<◌, ◌≤◌}
-use borrow.Author.Tests.{lt-ltb, le-ltb, ltb-false, eq-eqb, ne_eqb, eqb-true, not-false}
+use mathlib.Core.Bool.{Bool, true, false, not, ◌||◌, true≢false}
+use Prim.Native.Nat.{ℕ, ◌*◌, ◌≤◌}
+use borrow.Author.Tests.{le-ltb, ltb-false, eq-eqb, eqb-true, not-false}
 use lib.Dec.{eqb, ltb}
 use Rattle.scatter.specs.Calls.{most_side, unfit_side, unfit_shape, unfit_lengths}
 
@@ -11,14 +11,6 @@ neither true b e = absurd (true≢false e)
 neither false b e = (refl, e)
 
 -- ---- condition 12 ----
-
-pub below_unfit : (n : ℕ) → n < 1 → unfit_side n ≡ true
-unfolding unfit_side
-below_unfit n h = simp (lt-ltb _ _ h)
-
-pub above_unfit : (n : ℕ) → most_side < n → unfit_side n ≡ true
-unfolding unfit_side
-above_unfit n h = simp (lt-ltb _ _ h, or-true)
 
 pub within_fits : (n : ℕ) → 1 ≤ n → n ≤ most_side → unfit_side n ≡ false
 unfolding unfit_side
@@ -46,14 +38,6 @@ unfolding unfit_lengths
 fit_lengths r c input output e =
     let both = neither (not (eqb input (r * c))) (not (eqb output (r * c))) e in
     (not_differing input (r * c) both.0, not_differing output (r * c) both.1)
-
-pub input_unfit : (r c input output : ℕ) → (input ≡ r * c → ⊥) → unfit_lengths r c input output ≡ true
-unfolding unfit_lengths
-input_unfit r c input output h = simp (ne_eqb _ _ h)
-
-pub output_unfit : (r c input output : ℕ) → (output ≡ r * c → ⊥) → unfit_lengths r c input output ≡ true
-unfolding unfit_lengths
-output_unfit r c input output h = simp (ne_eqb _ _ h, or-true)
 
 pub lengths_fit : (r c input output : ℕ) → input ≡ r * c → output ≡ r * c → unfit_lengths r c input output ≡ false
 unfolding unfit_lengths

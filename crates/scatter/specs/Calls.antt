@@ -1,10 +1,7 @@
 -- The calls scatter and gather: what they answer, and what the output then holds.
 use Rattle.std.specs.Prelude.{ℕ, ◌*◌, Bool, not, ◌||◌, List, [], ◌∷◌, eqb, ltb, length}
 use Rattle.base.specs.Outcome.{Outcome, refused, accepted, Condition, when, judge}
-use Rattle.base.specs.Refusals.{number}
 use Rattle.scatter.specs.Blocks.{scattered, gathered}
-use Rattle.scatter.specs.declared.BlockAnswer.{BlockAnswer}
-use Rattle.scatter.specs.declared.BlockAnswer.TheVariants.{Rearranged, Refused}
 
 -- the most rows, and the most columns
 abbrev pub most_side : ℕ
@@ -28,10 +25,6 @@ block_conditions r c input output =
     when 12 (unfit_shape r c)
     ∷ when 13 (unfit_lengths r c input output)
     ∷ []
-
-abbrev pub block_answer : BlockAnswer → Outcome (Unit {0})
-block_answer Rearranged = accepted tt
-block_answer (Refused r) = refused (number r)
 
 -- what either call answers, of an input s and an output o
 abbrev pub block_call : ℕ → ℕ → List ℕ → List ℕ → Outcome (Unit {0})

@@ -3,7 +3,8 @@
 #![tactic(auto)]
 
 ghost use Rattle.std.specs.Prelude.{◌≡◌, ◌+◌, ◌*◌, ◌<◌, ◌≤◌, length};
-ghost use Rattle.base.specs.Judged.{judgement, judged};
+ghost use Rattle.base.specs.Answers.{outcome};
+ghost use Rattle.base.specs.Judged.{judged};
 ghost use Rattle.scatter.specs.Blocks.{scattered};
 ghost use Rattle.scatter.specs.Calls.{
   most_side,
@@ -11,20 +12,13 @@ ghost use Rattle.scatter.specs.Calls.{
   unfit_shape,
   unfit_lengths,
   block_conditions,
-  block_answer,
   block_call,
   scatter_output,
   gather_output,
 };
 ghost use Rattle.scatter.specs.Steps.{Block, Part};
 
-use base::{Judgement, Refusal};
-
-#[derive(Clone, Copy)]
-pub enum BlockAnswer {
-    Rearranged,
-    Refused(Refusal),
-}
+use base::Refusal;
 
 // The most rows, and the most columns.
 const MOST: usize = 64;
@@ -55,16 +49,17 @@ fn unfit_lengths(rows: usize, columns: usize, input: usize, output: usize) -> bo
 }
 
 // The conditions of both calls, in their order.
-fn judge_block(rows: usize, columns: usize, input: usize, output: usize) -> Judgement
-    ensures { judgement result ≡ judged (block_conditions rows columns input output) }
+#[tactic(auto, using(crate::proofs::ConditionLaws::fit_shape))]
+fn judge_block(rows: usize, columns: usize, input: usize, output: usize) -> Result<(), Refusal>
+    ensures { outcome result ≡ judged (block_conditions rows columns input output) }
 {
     if unfit_shape(rows, columns) {
-        return Judgement::Refused(Refusal::BlockShape);
+        return Err(Refusal::BlockShape);
     }
     if unfit_lengths(rows, columns, input, output) {
-        return Judgement::Refused(Refusal::BlockLength);
+        return Err(Refusal::BlockLength);
     }
-    Judgement::Passed
+    Ok(())
 }
 
 // Reads one column of the rows into its place in the output, behind those that were read before it.
@@ -88,23 +83,18 @@ fn read_columns(rows: usize, columns: usize, input: &[u8], output: &mut [u8])
 }
 
 // Writes bytes into a block by rows and reads them by columns.
-pub fn scatter(rows: usize, columns: usize, input: &[u8], output: &mut [u8]) -> BlockAnswer
-    ensures answer { block_answer result ≡ block_call rows columns input.now output.old }
+pub fn scatter(rows: usize, columns: usize, input: &[u8], output: &mut [u8]) -> Result<(), Refusal>
+    ensures answer { outcome result ≡ block_call rows columns input.now output.old }
     ensures output { output.new ≡ scatter_output rows columns input.now output.old }
 {
-    let judged = judge_block(rows, columns, input.len(), output.len());
-    match judged {
-        Judgement::Refused(r) => BlockAnswer::Refused(r),
-        Judgement::Passed => {
-            read_columns(rows, columns, input, output);
-            BlockAnswer::Rearranged
-        }
-    }
+    judge_block(rows, columns, input.len(), output.len())?;
+    read_columns(rows, columns, input, output);
+    Ok(())
 }
 
 // Writes bytes into a block by columns and reads them by rows, which undoes `scatter`: the same with rows and columns exchanged.
-pub fn gather(rows: usize, columns: usize, input: &[u8], output: &mut [u8]) -> BlockAnswer
-    ensures answer { block_answer result ≡ block_call rows columns input.now output.old }
+pub fn gather(rows: usize, columns: usize, input: &[u8], output: &mut [u8]) -> Result<(), Refusal>
+    ensures answer { outcome result ≡ block_call rows columns input.now output.old }
     ensures output { output.new ≡ gather_output rows columns input.now output.old }
 {
     scatter(columns, rows, input, output)
