@@ -1,81 +1,64 @@
 // A line of numbers, read.
 #![tactic(auto)]
 
-ghost use Rattle.std.specs.Prelude.{◌≡◌, length, drop};
+ghost use Rattle.std.specs.Prelude.{◌≡◌, ◌-◌, length, MatchOption, SomeIff};
 ghost use Rattle.std.proofs.lemmas.List.Edits.{sets};
-ghost use Rattle.parsing.specs.Input.{closing};
-ghost use Rattle.parsing.specs.Parsing.{read, reading_of, numbers_in, whole_line};
+ghost use Rattle.parsing.specs.Input.{Digit, closing};
+ghost use Rattle.parsing.specs.Parsing.{read, numbers_in, whole_line};
 
-// A number with the place after its closing byte; or none.
-#[derive(Clone, Copy)]
-pub enum Numeral {
-    Number(u64, usize),
-    Missing,
-}
+const MOST_DIGITS: usize = 9;
 
 // The byte behind a number that so many more follow.
 fn closing_byte(more: usize) -> u8
     ensures { result ≡ closing more }
 {
-    if more == 0 {
-        return b'\n';
-    }
-    b' '
+    if more == 0 { b'\n' } else { b' ' }
 }
 
-// One to nine digits from `from` on, and the byte `close`.
-fn number_at(input: &[u8], from: usize, close: u8) -> Numeral
-    ensures { reading_of input.now result ≡ read close (drop from input.now) }
+// What a decimal digit is worth.
+fn digit(c: u8) -> Option<u64>
+    ensures { SomeIff result (Digit c) (c - 48) }
 {
-    if input.len() <= from {
-        return Numeral::Missing;
+    if c.is_ascii_digit() {
+        Some(u64::from(c - b'0'))
+    } else {
+        None
     }
-    let first = input[from];
-    if first < 48 {
-        return Numeral::Missing;
-    }
-    if 57 < first {
-        return Numeral::Missing;
-    }
-    let mut value = (first - 48) as u64;
-    let mut at = from + 1;
-    let mut room: usize = 8;
-    while at < input.len() {
-        let c = input[at];
-        if c == close {
-            return Numeral::Number(value, at + 1);
-        }
-        if room == 0 {
-            return Numeral::Missing;
-        }
-        if c < 48 {
-            return Numeral::Missing;
-        }
-        if 57 < c {
-            return Numeral::Missing;
-        }
-        value = value * 10 + (c - 48) as u64;
-        at += 1;
-        room -= 1;
-    }
-    Numeral::Missing
 }
 
-// The whole input as a line of as many numbers as there is room for. They are stored, up to the first that is missing.
+// A number of one to nine digits with the byte `close` behind it, and what follows.
+#[tactic(auto, using(crate::proofs::ReadLaws::nothing_read, crate::proofs::ReadLaws::other_read, crate::proofs::ReadLaws::digit_read, crate::proofs::ReadLaws::end_read, crate::proofs::ReadLaws::close_read, crate::proofs::ReadLaws::full_read, crate::proofs::ReadLaws::other_read_on, crate::proofs::ReadLaws::digit_read_on))]
+fn number(input: &[u8], close: u8) -> Option<(u64, &[u8])>
+    ensures { MatchOption result (read close input.entry.now ≡ None) (λ p. read close input.entry.now ≡ Some (p.0, p.1.now)) }
+{
+    let (first, rest) = input.split_first()?;
+    let mut value = digit(*first)?;
+    for (i, c) in rest.iter().enumerate() {
+        if *c == close {
+            return Some((value, &rest[i + 1..]));
+        }
+        if i + 1 == MOST_DIGITS {
+            return None;
+        }
+        value = value * 10 + digit(*c)?;
+    }
+    None
+}
+
+// The whole input as a line of as many numbers as there is room for. They are stored, up to the first that is missing, so that
+// a caller has them of any line: the answer is a flag for this reason.
 pub fn parse(input: &[u8], out: &mut [u64]) -> bool
     ensures answer { result ≡ whole_line (length out.old) input.now }
     ensures numbers { out.new ≡ sets out.old 0 (numbers_in (length out.old) input.now) }
 {
-    let mut at = 0;
-    let mut i = 0;
-    while i < out.len() {
-        let close = closing_byte(out.len() - i - 1);
-        let Numeral::Number(value, next) = number_at(input, at, close) else {
+    let count = out.len();
+    let mut rest = input;
+    for (i, place) in out.iter_mut().enumerate() {
+        let Some((value, after)) = number(rest, closing_byte(count - i - 1)) else {
             return false;
         };
-        out[i] = value;
-        at = next;
-        i += 1;
+        *place = value;
+        rest = after;
     }
-    input.len() <= at
+    rest.is_empty()
 }
