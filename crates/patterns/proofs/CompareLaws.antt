@@ -1,28 +1,56 @@
--- How two lists of positions compare, step by step as a loop goes; and their spans, by their ends.
-use mathlib.Core.Path.{◌≡◌, refl, sym, ap}
-use mathlib.Core.Bool.{true, false}
+-- The order of positions is the order of tuples: of the count, the span and the positions, each as `<` compares it. And spans by their ends.
+use mathlib.Core.Path.{◌≡◌, refl, ap, ◌∙◌}
+use mathlib.Core.Bool.{Bool, true, false, ◌||◌, ◌&&◌, cond}
 use mathlib.Core.List.{List, [], ◌∷◌}
-use Prim.Native.Nat.{ℕ, ◌+◌, ◌-◌, ◌<◌, ◌≤◌}
+use Prim.Native.Nat.{ℕ, ◌-◌, ◌<◌}
 use native.Mathlib.Omega.{arith}
-use native.Mathlib.Numerals.{add-one}
-use lib.ListN.{length, drop, get_or, drop_of_length-le}
-use lib.Seq.{drop-cons}
-use Rattle.patterns.specs.Order.{span, lower}
-use Rattle.patterns.proofs.OrderLaws.{lower_less, lower_more, lower-same}
+use lib.ListN.{length, get_or}
+use lib.Dec.{ltb, eqb}
+use Rattle.std.proofs.Common.{Option, Some, Ordering, Less, Equal, Greater}
+use Rattle.std.specs.Ordering.{nat_cmp, is_some_and, is_lt, partial_ordering_then}
+use Rattle.std.specs.Cmp.Lexicographic.{slice_partial_cmp}
+use Rattle.patterns.specs.Order.{keyed, span, lower, before}
 
-module _ (p q : List ℕ) (i : ℕ) (h : i < length p) (k : i < length q) where
-  pub lower_here : get_or p i 0 < get_or q i 0 → lower (drop i p) (drop i q) ≡ true
-  lower_here l = rw (drop-cons p i 0 h, drop-cons q i 0 k) (lower_less _ _ _ _ l)
+-- ---- numbers first, then something else ----
 
-  pub higher_here : get_or q i 0 < get_or p i 0 → lower (drop i p) (drop i q) ≡ false
-  higher_here l = rw (drop-cons p i 0 h, drop-cons q i 0 k) (lower_more _ _ _ _ l)
+-- by the two tests of numbers
+decided : (less same : Bool) (rest : Option Ordering) →
+    is_some_and is_lt (partial_ordering_then (Some (cond less Less (cond same Equal Greater))) rest) ≡ (less || (same && is_some_and is_lt rest))
+decided true same rest = refl
+decided false true rest = refl
+decided false false rest = refl
 
-  pub same_here : get_or p i 0 ≡ get_or q i 0 → lower (drop (i + 1) p) (drop (i + 1) q) ≡ lower (drop i p) (drop i q)
-  same_here e = rw (drop-cons p i 0 h, drop-cons q i 0 k, e, add-one i) (sym (lower-same _ _ _))
+number_first : (a b : ℕ) (rest : Option Ordering) →
+    is_some_and is_lt (partial_ordering_then (Some (nat_cmp a b)) rest) ≡ (ltb a b || (eqb a b && is_some_and is_lt rest))
+number_first a b rest = decided (ltb a b) (eqb a b) rest
 
-pub lower_end : (p q : List ℕ) (i : ℕ) → length p ≤ i → length q ≤ i → lower (drop i p) (drop i q) ≡ false
+-- a tuple compares its first two parts first
+regrouped : (o : Ordering) (next rest : Option Ordering) → partial_ordering_then (partial_ordering_then (Some o) next) rest ≡ partial_ordering_then (Some o) (partial_ordering_then next rest)
+regrouped Less next rest = refl
+regrouped Equal next rest = refl
+regrouped Greater next rest = refl
+
+-- ---- positions, then tuples ----
+
+-- how `<` compares them
+abbrev compares : List ℕ → List ℕ → Option Ordering
+compares = slice_partial_cmp (λ (a b : ℕ). Some (nat_cmp a b))
+
+lower_slices : (p q : List ℕ) → is_some_and is_lt (compares p q) ≡ lower p q
 unfolding lower
-lower_end p q i h k = rw (drop_of_length-le p h, drop_of_length-le q k)
+lower_slices [] [] = refl
+lower_slices [] (b ∷ q) = refl
+lower_slices (a ∷ p) [] = refl
+lower_slices (a ∷ p) (b ∷ q) = number_first a b (compares p q) ∙ ap (λ (x : Bool). ltb a b || (eqb a b && x)) (lower_slices p q)
+
+pub before_tuples : (p q : List ℕ) {m n : ℕ} → m ≡ span p → n ≡ span q
+    → is_some_and is_lt (partial_ordering_then (partial_ordering_then (Some (nat_cmp (length p) (length q))) (Some (nat_cmp m n))) (compares p q)) ≡ before p q
+unfolding before keyed
+before_tuples p q {m} {n} e f =
+    ap (is_some_and is_lt) (regrouped (nat_cmp (length p) (length q)) (Some (nat_cmp m n)) (compares p q))
+    ∙ number_first (length p) (length q) (partial_ordering_then (Some (nat_cmp m n)) (compares p q))
+    ∙ ap (λ (x : Bool). ltb (length p) (length q) || (eqb (length p) (length q) && x))
+    (number_first m n (compares p q) ∙ rw (e, f, lower_slices p q) refl)
 
 -- ---- spans ----
 

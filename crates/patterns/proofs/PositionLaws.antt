@@ -1,33 +1,18 @@
--- A list spelled out by its elements, and one step of the test whether positions ascend.
-use mathlib.Core.Path.{◌≡◌, refl, sym, ap, ◌∙◌}
+-- What an array holds of a pattern, and one step of the test whether positions ascend.
+use mathlib.Core.Path.{◌≡◌}
 use mathlib.Core.Bool.{true, false}
-use mathlib.Core.List.{List, [], ◌∷◌, ◌++◌}
-use Prim.Native.Nat.{ℕ, zero, suc, ◌+◌, ◌-◌, ◌<◌, ◌≤◌}
+use mathlib.Core.List.{List}
+use Prim.Native.Nat.{ℕ, ◌+◌, ◌-◌, ◌<◌, ◌≤◌}
 use native.Mathlib.Omega.{arith}
 use native.Mathlib.Numerals.{add-one}
 use borrow.Author.Tests.{le-leb, lt-leb, lt-ltb, le-ltb}
-use lib.ListN.{length, take, drop, get_or, set, replicate, drop_of_length-le, length-append, length-replicate}
-use lib.Seq.{drop-cons, take-suc, take_all, take-append_seam, set_at, append_snoc, length-take-le}
+use lib.ListN.{length, take, drop, get_or, replicate, drop_of_length-le, length-append, length-replicate}
+use lib.Seq.{drop-cons, take-append_seam}
 use Rattle.patterns.specs.declared.Pattern.{Pattern}
 use Rattle.patterns.specs.declared.Pattern.TheVariants.{Empty, One, Two, Three, Four}
 use Rattle.patterns.specs.Patterns.{most_positions, positions}
 use Rattle.patterns.specs.Slices.{spread_out}
 use Rattle.patterns.specs.Listing.{ascending}
-
--- the k elements from index i on
-abbrev pub spell : ℕ → List ℕ → ℕ → List ℕ
-spell zero l i = []
-spell (suc k) l i = get_or l i 0 ∷ spell k l (suc i)
-
-spell_take : (k : ℕ) (l : List ℕ) (i : ℕ) → i + k ≤ length l → spell k l i ≡ take k (drop i l)
-spell_take zero l i h = refl
-spell_take (suc k) l i h = rw (drop-cons l i 0 (omega arith)) (ap (λ (r : List ℕ). get_or l i 0 ∷ r) (spell_take k l (suc i) (omega arith)))
-
-pub spell_first : (k : ℕ) (l : List ℕ) → k ≤ length l → spell k l 0 ≡ take k l
-spell_first k l h = spell_take k l 0 (omega arith)
-
-pub spell_all : (k most : ℕ) (l : List ℕ) → length l ≡ k → k ≤ most → spell k l 0 ≡ take most l
-spell_all k most l e h = spell_first k l (omega arith) ∙ take_all k l (omega arith) ∙ sym (take_all most l (omega arith))
 
 -- ---- do positions ascend? ----
 
@@ -40,9 +25,9 @@ module _ (l from : ℕ) (ps : List ℕ) (i : ℕ) (h : i < length ps) where
   unfolding ascending
   ascending_beyond j k = rw (drop-cons ps i 0 h, le-leb from (get_or ps i 0) j, le-ltb (get_or ps i 0) l k)
 
-  pub ascending-step : from ≤ get_or ps i 0 → get_or ps i 0 < l → (next : ℕ) → next ≡ get_or ps i 0 + 1 → ascending l next (drop (i + 1) ps) ≡ ascending l from (drop i ps)
+  pub ascending_step : from ≤ get_or ps i 0 → get_or ps i 0 < l → (next : ℕ) → next ≡ get_or ps i 0 + 1 → ascending l next (drop (i + 1) ps) ≡ ascending l from (drop i ps)
   unfolding ascending
-  ascending-step j k next e = rw (e, drop-cons ps i 0 h, le-leb from (get_or ps i 0) j, lt-ltb (get_or ps i 0) l k, add-one (get_or ps i 0), add-one i)
+  ascending_step j k next e = rw (e, drop-cons ps i 0 h, le-leb from (get_or ps i 0) j, lt-ltb (get_or ps i 0) l k, add-one (get_or ps i 0), add-one i)
 
 pub ascending_end : (l from : ℕ) (ps : List ℕ) (i : ℕ) → length ps ≤ i → ascending l from (drop i ps) ≡ true
 unfolding ascending
@@ -72,11 +57,3 @@ module _ (p : Pattern) {held : List ℕ} {n : ℕ} (e : held ≡ spread_out (pos
 
   pub spread_held : take n held ≡ positions p
   spread_held = rw counted (spread_take (positions p) held e)
-
--- a turn of a loop that copies s over the front of d
-pub copy_turn : (d s cur : List ℕ) (j : ℕ) → cur ≡ take j s ++ drop j d → j < length d → j < length s
-    → set cur j (get_or s j 0) ≡ take (j + 1) s ++ drop (j + 1) d
-copy_turn d s cur j e h k =
-    rw (add-one, e, drop-cons d j 0, take-suc s j 0)
-    (set_at (take j s) (get_or d j 0) (drop (suc j) d) (get_or s j 0) j (length-take-le j s (omega arith))
-    ∙ sym (append_snoc (take j s) (get_or s j 0) (drop (suc j) d)))

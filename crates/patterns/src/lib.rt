@@ -1,7 +1,7 @@
 // Error patterns, marks, and a pattern as a slice of its positions.
 #![tactic(auto)]
 
-ghost use Rattle.std.specs.Prelude.{◌≡◌, ◌++◌, ◌≤◌, length, take, drop};
+ghost use Rattle.std.specs.Prelude.{◌≡◌, ℕ, List, ◌++◌, ◌≤◌, length, take, drop};
 ghost use Rattle.poly.specs.Fit.{Fit};
 ghost use Rattle.patterns.specs.Patterns.{most_positions, positions, point_of};
 ghost use Rattle.patterns.specs.Order.{span, lower, before};
@@ -10,6 +10,7 @@ ghost use Rattle.patterns.specs.Marks.{unfit_pattern, unfit_mark};
 ghost use Rattle.patterns.specs.Slices.{spread_out};
 
 use poly::Generator;
+use std::marker::Model;
 
 // The most positions of a pattern.
 pub const MOST_POSITIONS: usize = 4;
@@ -36,20 +37,13 @@ pub enum Mark {
 pub fn from_positions(pos: &[u16]) -> Pattern
     ensures { positions result ≡ take most_positions pos.now }
 {
-    let n = pos.len();
-    if n == 0 {
-        return Pattern::Empty;
+    match pos {
+        [] => Pattern::Empty,
+        [a] => Pattern::One(*a),
+        [a, b] => Pattern::Two(*a, *b),
+        [a, b, c] => Pattern::Three(*a, *b, *c),
+        [a, b, c, d, ..] => Pattern::Four(*a, *b, *c, *d),
     }
-    if n == 1 {
-        return Pattern::One(pos[0]);
-    }
-    if n == 2 {
-        return Pattern::Two(pos[0], pos[1]);
-    }
-    if n == 3 {
-        return Pattern::Three(pos[0], pos[1], pos[2]);
-    }
-    Pattern::Four(pos[0], pos[1], pos[2], pos[3])
 }
 
 pub fn count_of(p: Pattern) -> usize
@@ -77,94 +71,99 @@ pub fn spread(p: Pattern) -> [u16; MOST_POSITIONS]
     }
 }
 
+// A pattern's positions, to be lent as a slice.
+#[derive(Drop)]
+pub struct Positions {
+    held: [u16; MOST_POSITIONS],
+    count: usize,
+}
+
+// A contract sees them as a list.
+impl Model for Positions {
+    ghost Value = { List ℕ };
+
+    ghost view = { λ s. take s.count s.held };
+
+    ghost invariant = { λ s. s.count ≤ most_positions };
+}
+
+impl Positions {
+    pub fn of(p: Pattern) -> Positions
+        ensures { result ≡ positions p }
+    {
+        match p {
+            Pattern::Empty => Positions {
+                held: [0, 0, 0, 0],
+                count: 0,
+            },
+            Pattern::One(a) => Positions {
+                held: [a, 0, 0, 0],
+                count: 1,
+            },
+            Pattern::Two(a, b) => Positions {
+                held: [a, b, 0, 0],
+                count: 2,
+            },
+            Pattern::Three(a, b, c) => Positions {
+                held: [a, b, c, 0],
+                count: 3,
+            },
+            Pattern::Four(a, b, c, d) => Positions {
+                held: [a, b, c, d],
+                count: 4,
+            },
+        }
+    }
+
+    pub fn as_slice(&self) -> &[u16]
+        ensures { result.now ≡ self.now }
+    {
+        &self.held[..self.count]
+    }
+}
+
 // Its positions, into the front of a slice.
 pub fn put_positions(p: Pattern, pos: &mut [u16])
     requires { length (positions p) ≤ length pos.old }
     ensures { pos.new ≡ positions p ++ drop (length (positions p)) pos.old }
 {
-    let held = spread(p);
-    let n = count_of(p);
-    let mut i = 0;
-    while i < n {
-        pos[i] = held[i];
-        i += 1;
-    }
+    let held = Positions::of(p);
+    let all = held.as_slice();
+    pos[..all.len()].copy_from_slice(all);
 }
 
 // The largest of ascending positions minus the smallest, and 0 for one or none. Nothing asks that they ascend.
+#[tactic(auto, using(crate::proofs::CompareLaws::span_few, crate::proofs::CompareLaws::span_ends))]
 fn span_of(pos: &[u16]) -> u16
     ensures { result ≡ span pos.now }
 {
-    let n = pos.len();
-    if n == 0 {
-        return 0;
+    match pos {
+        [low, .., high] => high.saturating_sub(*low),
+        _ => 0,
     }
-    let low = pos[0];
-    let high = pos[n - 1];
-    if high < low {
-        return 0;
-    }
-    high - low
-}
-
-// Of as many positions: has `p` the lower one at the first place where they differ?
-fn is_lower(p: &[u16], q: &[u16]) -> bool
-    requires { length p.now ≡ length q.now }
-    ensures { result ≡ lower p.now q.now }
-{
-    let mut i = 0;
-    while i < p.len() {
-        let a = p[i];
-        let b = q[i];
-        if a < b {
-            return true;
-        }
-        if b < a {
-            return false;
-        }
-        i += 1;
-    }
-    false
 }
 
 // Do the positions `p` come before `q` in the order of the list?
 fn in_order(p: &[u16], q: &[u16]) -> bool
     ensures { result ≡ before p.now q.now }
 {
-    if p.len() < q.len() {
-        return true;
-    }
-    if q.len() < p.len() {
-        return false;
-    }
-    let p_span = span_of(p);
-    let q_span = span_of(q);
-    if p_span < q_span {
-        return true;
-    }
-    if q_span < p_span {
-        return false;
-    }
-    is_lower(p, q)
+    (p.len(), span_of(p), p) < (q.len(), span_of(q), q)
 }
 
 // The same of positions and a pattern.
 pub fn is_before(pos: &[u16], p: Pattern) -> bool
     ensures { result ≡ before pos.now (positions p) }
 {
-    let held = spread(p);
-    let n = count_of(p);
-    in_order(pos, &held[..n])
+    let held = Positions::of(p);
+    in_order(pos, held.as_slice())
 }
 
 // Condition 3.
+#[tactic(auto, unfolding(crate::specs::Listing::unfit_limit))]
 pub fn unfit_limit(limit: usize) -> bool
     ensures { result ≡ unfit_limit limit }
 {
-    if limit == 0 {
-        return true;
-    }
-    MOST_POSITIONS < limit
+    limit == 0 || MOST_POSITIONS < limit
 }
 
 // Condition 4.
@@ -180,30 +179,23 @@ fn ascends(pos: &[u16], l: usize) -> bool
     ensures { result ≡ ascending l 0 pos.now }
 {
     let mut from: usize = 0;
-    let mut i = 0;
-    while i < pos.len() {
-        let p = pos[i] as usize;
-        if p < from {
-            return false;
-        }
-        if l <= p {
+    for x in pos {
+        let p = *x as usize;
+        if p < from || l <= p {
             return false;
         }
         from = p + 1;
-        i += 1;
     }
     true
 }
 
+#[tactic(auto, using(crate::proofs::MarkLaws::many_unfit, crate::proofs::MarkLaws::few_unfit))]
 fn unfit_pattern(p: Pattern, l: usize, limit: usize) -> bool
     ensures { result ≡ unfit_pattern l limit (positions p) }
 {
-    let held = spread(p);
-    let n = count_of(p);
-    if limit < n {
-        return true;
-    }
-    !ascends(&held[..n], l)
+    let held = Positions::of(p);
+    let all = held.as_slice();
+    limit < all.len() || !ascends(all, l)
 }
 
 // Condition 7, for packets of l bits and patterns of at most so many positions.
