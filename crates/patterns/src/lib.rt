@@ -175,6 +175,7 @@ pub fn unfit_syndrome(g: Generator, syndrome: u64) -> bool
 }
 
 // Are these strictly ascending positions below l?
+#[tactic(auto, using(crate::proofs::PositionLaws::ascending_below, crate::proofs::PositionLaws::ascending_beyond, crate::proofs::PositionLaws::ascending_step, crate::proofs::PositionLaws::ascending_end))]
 fn ascends(pos: &[u16], l: usize) -> bool
     ensures { result ≡ ascending l 0 pos.now }
 {
