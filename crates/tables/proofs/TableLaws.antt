@@ -1,6 +1,6 @@
 -- The tables as lists: their lengths and entries, a list that has those entries is the table, and the tests of conditions 5 and 6 say what they mean.
 use mathlib.Core.Path.{◌≡◌, refl, sym, ap, ap₂, ◌∙◌}
-use mathlib.Core.Bool.{true, false, true≢false, not, or-true}
+use mathlib.Core.Bool.{Bool, true, false, true≢false, not, or-true}
 use mathlib.Core.List.{List, [], ◌∷◌}
 use Prim.Native.Nat.{ℕ, zero, suc, ◌+◌, ◌^◌, ◌<◌, ◌≤◌}
 use native.Mathlib.Omega.{arith}
@@ -98,11 +98,11 @@ same_self (x ∷ xs) = simp (eq-eqb x x refl) (same_self xs)
 pub equal_same : (a b : List ℕ) → a ≡ b → same a b ≡ true
 equal_same a b e = ap (same a) (sym e) ∙ same_self a
 
--- a number that is 0 exactly when the lists are the same
-pub zero_same : (w : ℕ) (a b : List ℕ) → (w ≡ 0 → a ≡ b) → (a ≡ b → w ≡ 0) → eqb w 0 ≡ same a b
-zero_same w a b f h =
-    by_test (same a b) (λ t. eq-eqb w 0 (h (same_equal a b t)) ∙ sym t)
-    (λ t. ne_eqb w 0 (λ z. true≢false (sym (equal_same a b (f z)) ∙ t)) ∙ sym t)
+-- an answer that is true exactly when the lists are the same
+pub same_answer : (r : Bool) (a b : List ℕ) → (r ≡ true → a ≡ b) → (a ≡ b → r ≡ true) → r ≡ same a b
+same_answer r a b f h =
+    by_test (same a b) (λ t. h (same_equal a b t) ∙ sym t)
+    (λ t. by_test r (λ e. absurd (true≢false (sym (equal_same a b (f e)) ∙ t))) (λ e. e ∙ sym t))
 
 -- condition 5
 unfit_steps : (n : ℕ) (a b : ℕ) → (a ≡ 2 ^ n → ⊥) → unfit_tables n a b ≡ true

@@ -4,7 +4,8 @@ use mathlib.Core.Bool.{◌&&◌}
 use mathlib.Core.Logic.{◌↔◌}
 use Prim.Native.Nat.{ℕ, ◌+◌, ◌<◌}
 use native.Mathlib.Omega.{arith}
-use borrow.Author.Tests.{eqb-true, eqb-false, ne_eqb}
+use borrow.Author.Tests.{eqb-true, eq-eqb, eqb-false, ne_eqb}
+use Rattle.std.specs.Bool.{IsTrue}
 use borrow.Author.Count.{below_more}
 use lib.Dec.{eqb}
 use lib.Bits.{bit_xor, bit_or, or_add_and, and_le_l, and_le_r, or_zero_l, xor_self}
@@ -41,5 +42,9 @@ module _ (P : ℕ → Type 0) where
     (λ all. (or_zero wrong new).1 (g.1 (λ k l. all k (omega arith)), h.1 (all i (omega arith)))),
   )
 
-  pub gathered_all : (i m wrong : ℕ) → i ≡ m → Gathered P i wrong → Gathered P m wrong
-  gathered_all i m wrong e g = ((λ z k h. g.0 z k (omega arith)), (λ all. g.1 (λ k h. all k (omega arith))))
+  -- the answer to a pass over all m
+  pub gathered_answer : (i m wrong : ℕ) → i ≡ m → Gathered P i wrong → IsTrue (eqb wrong 0) ↔ ((k : ℕ) → k < m → P k)
+  gathered_answer i m wrong e g = (
+    (λ t k h. g.0 (eqb-true wrong 0 t) k (omega arith)),
+    (λ all. eq-eqb wrong 0 (g.1 (λ k h. all k (omega arith)))),
+  )

@@ -1,28 +1,26 @@
 // The verification of tables that are lent.
 #![tactic(auto)]
 
-ghost use Rattle.std.specs.Prelude.{◌≡◌, ◌/◌, eqb, ◌↔◌};
+ghost use Rattle.std.specs.Prelude.{◌≡◌, ◌/◌, ◌↔◌, IsTrue};
 ghost use Rattle.tables.specs.Tables.{step_table, first_table, same, right_tables};
 ghost use Rattle.tables.specs.Lent.{Lent};
 ghost use Rattle.verifying.specs.Rule.{later, EvenRuled, OddRuled};
 
 use poly::Generator;
-use tables::ABSENT;
+use tables::{ABSENT, Tables};
 
-// 0 exactly when every entry is right; mismatches are gathered, so that no entry waits for another.
-fn wrong_steps(g: Generator, steps: &[u16]) -> u16
+// Whether every step is right. Mismatches are gathered, so that no entry waits for another.
+fn right_steps(g: Generator, steps: &[u16]) -> bool
     requires { Lent g steps.now }
-    ensures { eqb result 0 ≡ same steps.now (step_table g.degree g.coefficients) }
+    ensures { result ≡ same steps.now (step_table g.degree g.coefficients) }
 {
     let half = (g.coefficients / 2) as u16;
-    let mut wrong: u16 = 0;
-    let mut k: usize = 0;
-    while k < steps.len() / 2 {
+    let mut wrong = 0;
+    for k in 0..steps.len() / 2 {
         let t = k as u16;
-        wrong = wrong | ((steps[k * 2] ^ t) | (steps[k * 2 + 1] ^ (t ^ half)));
-        k += 1;
+        wrong |= (steps[k * 2] ^ t) | (steps[k * 2 + 1] ^ (t ^ half));
     }
-    wrong
+    wrong == 0
 }
 
 // One position later, and absent if absent.
@@ -32,51 +30,46 @@ fn later(p: u16) -> u16
     p + (1 - p / ABSENT)
 }
 
-// 0 exactly when each entry at an even place is one position after the entry at its half.
-fn wrong_evens(firsts: &[u16]) -> u16
-    ensures { (result ≡ 0) ↔ EvenRuled firsts.now }
+// Whether each entry at an even place is one position after the entry at its half.
+fn right_evens(firsts: &[u16]) -> bool
+    ensures { IsTrue result ↔ EvenRuled firsts.now }
 {
-    let mut wrong: u16 = 0;
-    let mut k: usize = 0;
-    while k < firsts.len() / 2 {
-        wrong = wrong | (firsts[k * 2] ^ later(firsts[k]));
-        k += 1;
+    let mut wrong = 0;
+    for k in 0..firsts.len() / 2 {
+        wrong |= firsts[k * 2] ^ later(firsts[k]);
     }
-    wrong
+    wrong == 0
 }
 
 // The same for the odd places above 1, whose step is their half plus that of the generator.
-fn wrong_odds(g: Generator, firsts: &[u16]) -> u16
+fn right_odds(g: Generator, firsts: &[u16]) -> bool
     requires { Lent g firsts.now }
-    ensures { (result ≡ 0) ↔ OddRuled (g.coefficients / 2) firsts.now }
+    ensures { IsTrue result ↔ OddRuled (g.coefficients / 2) firsts.now }
 {
     let half = (g.coefficients / 2) as usize;
-    let mut wrong: u16 = 0;
-    let mut k: usize = 1;
-    while k < firsts.len() / 2 {
-        let t = k ^ half;
-        wrong = wrong | (firsts[k * 2 + 1] ^ later(firsts[t]));
-        k += 1;
+    let mut wrong = 0;
+    for k in 1..firsts.len() / 2 {
+        wrong |= firsts[k * 2 + 1] ^ later(firsts[k ^ half]);
     }
-    wrong
+    wrong == 0
 }
 
-// 0 exactly when every entry is right: each is one position after the entry at its step, and that of 1 is 0.
-fn wrong_firsts(g: Generator, firsts: &[u16]) -> u16
+// Whether every first position is right: each is one after that at its step, and that of 1 is 0.
+fn right_firsts(g: Generator, firsts: &[u16]) -> bool
     requires { Lent g firsts.now }
-    ensures { eqb result 0 ≡ same firsts.now (first_table g.degree g.coefficients) }
+    ensures { result ≡ same firsts.now (first_table g.degree g.coefficients) }
 {
-    let evens = wrong_evens(firsts);
-    let odds = wrong_odds(g, firsts);
-    (evens | odds) | firsts[1]
+    if firsts[1] != 0 {
+        return false;
+    }
+    right_evens(firsts) && right_odds(g, firsts)
 }
 
 // Whether both tables are right, whatever they hold: the test of condition 6.
-pub fn verify(g: Generator, steps: &[u16], firsts: &[u16]) -> bool
-    requires { Lent g steps.now × Lent g firsts.now }
-    ensures { result ≡ right_tables g.degree g.coefficients steps.now firsts.now }
+#[tactic(auto, unfolding(tables::specs::Tables::right_tables))]
+pub fn verify(g: Generator, tables: Tables) -> bool
+    requires { Lent g tables.steps.now × Lent g tables.firsts.now }
+    ensures { result ≡ right_tables g.degree g.coefficients tables.entry.steps.now tables.entry.firsts.now }
 {
-    let s = wrong_steps(g, steps);
-    let f = wrong_firsts(g, firsts);
-    (s | f) == 0
+    right_steps(g, tables.steps) && right_firsts(g, tables.firsts)
 }
