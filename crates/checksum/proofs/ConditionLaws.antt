@@ -3,14 +3,14 @@ use mathlib.Core.Path.{◌≡◌, sym, ◌∙◌}
 use mathlib.Core.Bool.{true, false, true≢false, or-true}
 use Prim.Native.Nat.{ℕ, ◌+◌, ◌-◌, ◌*◌, ◌%◌, ◌<◌, ◌≤◌}
 use native.Mathlib.Omega.{arith}
-use borrow.Author.Tests.{lt-ltb, le-ltb, eq-eqb, ne_eqb, ltb-true, ltb-false, eqb-false}
+use borrow.Author.Tests.{lt-ltb, le-ltb, ltb-true, ltb-false, eqb-false}
 use lib.Dec.{eqb, ltb}
 use Rattle.base.proofs.Cases.{by_test, by_order}
 use Rattle.checksum.specs.Checksum.{unfit_range, unfit_field}
 use Rattle.checksum.specs.declared.Check.{Check}
 
 module _ (n l : ℕ) (k : Check) where
-  pub backward_unfit : k.to < k.from → unfit_range n l k ≡ true
+  backward_unfit : k.to < k.from → unfit_range n l k ≡ true
   unfolding unfit_range
   backward_unfit h = simp (lt-ltb _ _ h)
 
@@ -31,11 +31,11 @@ module _ (n l : ℕ) (k : Check) where
       record { ordered = ordered; whole = ltb-false _ _ (sym (range-unfit ordered) ∙ h) })
 
 module _ (k : Check) where
-  pub before-unfit : k.field < k.from → unfit_field k ≡ true
+  before-unfit : k.field < k.from → unfit_field k ≡ true
   unfolding unfit_field
   before-unfit h = simp (lt-ltb _ _ h)
 
-  pub past_unfit : k.to < k.field + 2 → unfit_field k ≡ true
+  past_unfit : k.to < k.field + 2 → unfit_field k ≡ true
   unfolding unfit_field
   past_unfit h = simp (lt-ltb _ _ h, or-true)
 
@@ -46,12 +46,6 @@ module _ (k : Check) where
   field_unfit : k.from ≤ k.field → k.field + 2 ≤ k.to → unfit_field k ≡ eqb ((k.field - k.from) % 2) 1
   unfolding unfit_field
   field_unfit h l = simp (le-ltb _ _ h, le-ltb _ _ l)
-
-  pub odd_unfit : k.from ≤ k.field → k.field + 2 ≤ k.to → (k.field - k.from) % 2 ≡ 1 → unfit_field k ≡ true
-  odd_unfit h l odd = field_unfit h l ∙ eq-eqb _ _ odd
-
-  pub even_fits : k.from ≤ k.field → k.field + 2 ≤ k.to → (k.field - k.from) % 2 ≡ 0 → unfit_field k ≡ false
-  even_fits h l even = field_unfit h l ∙ ne_eqb ((k.field - k.from) % 2) 1 (λ odd. omega arith)
 
   -- a field that condition 10 lets pass
   pub record FitField : Type 0 where

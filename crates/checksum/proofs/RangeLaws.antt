@@ -17,7 +17,7 @@ use Rattle.packet.specs.Packet.{Bytes}
 use Rattle.checksum.specs.Checksum.{sum_of, total, range, field_of, passes}
 use Rattle.checksum.specs.Shares.{multiple, word_weight, share}
 use Rattle.checksum.specs.declared.Check.{Check}
-use Rattle.checksum.proofs.SumLaws.{total_one, total_two, total_turn, total_past, sum-multiple}
+use Rattle.checksum.proofs.SumLaws.{total_nil, total_one, total_two, sum-multiple}
 
 -- the elements of a part are bytes, and so is what is written
 pub drop_bytes : (a : ℕ) (s : List ℕ) → Bytes s → Bytes (drop a s)
@@ -144,6 +144,12 @@ total-range-set a e i v s h =
     (total-set (range a e s) (i - a) v (omega (arith, range_length a e s h))))
     (λ m. rw (share_above a e i m, range_above a e i v s g m) (omega arith)))
 
+total_both : (r : List ℕ) → length r ≡ 2 → total r ≡ get_or r 0 0 * 256 + get_or r 1 0
+total_both [] h = absurd (omega arith)
+total_both (x ∷ []) h = absurd (omega arith)
+total_both (x ∷ y ∷ []) h = omega (arith, total_two x y [], total_nil)
+total_both (x ∷ y ∷ z ∷ r) h = absurd (omega arith)
+
 -- the field is a range of two bytes, and the number in it is their total
 pub field_total : (f : ℕ) (s : List ℕ) → f + 2 ≤ length s → total (range f (f + 2) s) ≡ field_of f s
 unfolding field_of
@@ -152,4 +158,4 @@ field_total f s h =
     let long = range_length f (f + 2) s h in
     let high : get_or r 0 0 ≡ get_or s f 0 = ap (λ (x : ℕ). get_or r x 0) (omega arith) ∙ get_or_range f (f + 2) f s (omega arith) (omega arith) in
     let low : get_or r 1 0 ≡ get_or s (f + 1) 0 = ap (λ (x : ℕ). get_or r x 0) (omega arith) ∙ get_or_range f (f + 2) (f + 1) s (omega arith) (omega arith) in
-    omega (arith, total_turn r 0 (get_or r 0 0 * 256 + get_or r 1 0) (omega arith) refl, total_past r 2 (omega arith), high, low)
+    omega (arith, total_both r (omega arith), high, low)

@@ -3,12 +3,12 @@
 use mathlib.Core.Path.{◌≡◌, refl, sym, ap, ◌∙◌}
 use mathlib.Core.Bool.{false}
 use mathlib.Core.Logic.{◌↔◌}
-use mathlib.Core.List.{List, [], ◌∷◌}
-use Prim.Native.Nat.{ℕ, zero, suc, ◌+◌, ◌-◌, ◌*◌, ◌/◌, ◌%◌, ◌<◌, ◌≤◌}
+use mathlib.Core.List.{List, [], ◌∷◌, ◌++◌}
+use Prim.Native.Nat.{ℕ, min, zero, suc, ◌+◌, ◌-◌, ◌*◌, ◌/◌, ◌%◌, ◌<◌, ◌≤◌}
 use native.Mathlib.Omega.{arith}
 use borrow.Author.Tests.{lt-ltb, eq-eqb, ne_eqb, ltb-true, eqb-true, eqb-false}
 use lib.Dec.{eqb, ltb}
-use lib.ListN.{length, get_or, drop, drop_of_length-le}
+use lib.ListN.{length, get_or}
 use Rattle.base.proofs.Cases.{by_test}
 use Rattle.packet.specs.Packet.{Bytes}
 use Rattle.checksum.specs.Checksum.{words, folded, sum_from, sum_of, plain, total, reduced}
@@ -44,42 +44,47 @@ pub sum_two : (r h l : ℕ) (s : List ℕ) → sum_from r (words (h ∷ l ∷ s)
 unfolding sum_from words
 sum_two r h l s = refl
 
-pub folded_lt : (r w : ℕ) → r < 65536 → w < 65536 → folded (r + w) < 65536
+folded_lt : (r w : ℕ) → r < 65536 → w < 65536 → folded (r + w) < 65536
 unfolding folded
 folded_lt r w hr hw = omega arith
 
--- the word that begins at byte i, and those after it
-words-drop : (s : List ℕ) (i : ℕ) → i < length s → words (drop i s) ≡ (get_or s i 0 * 256 + get_or s (suc i) 0) ∷ words (drop (suc (suc i)) s)
+-- bytes cut into their first two, or the only one, and the rest
+pub record Cut (all pair rest : List ℕ) : Type 0 where
+  pub whole : all ≡ pair ++ rest
+  pub size : length pair ≡ min 2 (length all)
+  pub some : 0 < length all
+
+-- the word that they begin with, and those after it
+words_cut : (pair rest : List ℕ) → length pair ≡ min 2 (length (pair ++ rest)) → 0 < length (pair ++ rest)
+    → words (pair ++ rest) ≡ (get_or pair 0 0 * 256 + get_or pair 1 0) ∷ words rest
 unfolding words
-words-drop [] i h = absurd (omega arith)
-words-drop (x ∷ []) zero h = refl
-words-drop (x ∷ []) (suc i) h = absurd (omega arith)
-words-drop (x ∷ y ∷ s) zero h = refl
-words-drop (x ∷ y ∷ s) (suc i) h = words-drop (y ∷ s) i (omega arith)
+words_cut [] rest e h = absurd (omega arith)
+words_cut (x ∷ []) [] e h = refl
+words_cut (x ∷ []) (y ∷ rest) e h = absurd (omega arith)
+words_cut (x ∷ y ∷ []) rest e h = refl
+words_cut (x ∷ y ∷ z ∷ pair) rest e h = absurd (omega arith)
 
-pub words_at : (s : List ℕ) (i : ℕ) → i < length s → words (drop i s) ≡ (get_or s i 0 * 256 + get_or s (i + 1) 0) ∷ words (drop (i + 2) s)
-words_at s i h =
-    let one : i + 1 ≡ suc i = omega arith in
-    let two : i + 2 ≡ suc (suc i) = omega arith in
-    rw (one, two) (words-drop s i h)
+-- one turn of a pass over the words, w being the word that is met
+module _ {all pair rest : List ℕ} {w : ℕ} (c : Cut all pair rest) (word : w ≡ get_or pair 0 0 * 256 + get_or pair 1 0) where
+  words_turn : words all ≡ w ∷ words rest
+  words_turn = rw (c.whole, word) (words_cut pair rest (rw c.whole at c.size) (rw c.whole at c.some))
 
--- one turn of a pass over the words
-pub sum_turn : (s : List ℕ) (r i w : ℕ) → i < length s → w ≡ get_or s i 0 * 256 + get_or s (i + 1) 0
-    → sum_from r (words (drop i s)) ≡ sum_from (folded (r + w)) (words (drop (i + 2) s))
-unfolding sum_from
-sum_turn s r i w h e = rw (words_at s i h, e) refl
+  pub sum_turn : (r : ℕ) → sum_from r (words all) ≡ sum_from (folded (r + w)) (words rest)
+  unfolding sum_from
+  sum_turn r = rw words_turn refl
 
-pub total_turn : (s : List ℕ) (i w : ℕ) → i < length s → w ≡ get_or s i 0 * 256 + get_or s (i + 1) 0
-    → total (drop i s) ≡ w + total (drop (i + 2) s)
-unfolding total plain
-total_turn s i w h e = rw (words_at s i h, e) refl
+  pub total_turn : total all ≡ w + total rest
+  unfolding total plain
+  total_turn = rw words_turn refl
 
 -- nothing is left past the end
-pub sum_past : (s : List ℕ) (r i : ℕ) → length s ≤ i → sum_from r (words (drop i s)) ≡ r
-sum_past s r i h = rw (drop_of_length-le s {i = i} h) (sum_nil r)
+pub sum_past : (s : List ℕ) (r : ℕ) → length s ≡ 0 → sum_from r (words s) ≡ r
+sum_past [] r h = sum_nil r
+sum_past (x ∷ s) r h = absurd (omega arith)
 
-pub total_past : (s : List ℕ) (i : ℕ) → length s ≤ i → total (drop i s) ≡ 0
-total_past s i h = rw (drop_of_length-le s {i = i} h) total_nil
+pub total_past : (s : List ℕ) → length s ≡ 0 → total s ≡ 0
+total_past [] h = total_nil
+total_past (x ∷ s) h = absurd (omega arith)
 
 pub reduced_zero : reduced 0 ≡ 0
 unfolding reduced

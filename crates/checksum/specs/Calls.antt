@@ -1,14 +1,11 @@
 -- The calls sum and stamp: what they answer, and what the packet then holds.
 use Rattle.std.specs.Prelude.{ℕ, List, [], ◌∷◌}
 use Rattle.base.specs.Outcome.{Outcome, refused, accepted, Condition, when, judge}
-use Rattle.base.specs.Refusals.{number}
 use Rattle.poly.specs.Polynomial.{degree}
 use Rattle.poly.specs.Generators.{unfit}
 use Rattle.packet.specs.Packet.{bits, unfit_length}
 use Rattle.checksum.specs.Checksum.{sum_of, unfit_range, unfit_field, stamped}
 use Rattle.checksum.specs.declared.Check.{Check}
-use Rattle.checksum.specs.declared.StampAnswer.{StampAnswer}
-use Rattle.checksum.specs.declared.StampAnswer.TheVariants.{Stamped, Refused}
 
 -- sum is never refused
 abbrev pub sum_call : List ℕ → ℕ
@@ -22,10 +19,6 @@ stamp_conditions g l k =
     ∷ when 9 (unfit_range (degree g) l k)
     ∷ when 10 (unfit_field k)
     ∷ []
-
-abbrev pub stamp_answer : StampAnswer → Outcome (Unit {0})
-stamp_answer Stamped = accepted tt
-stamp_answer (Refused r) = refused (number r)
 
 abbrev pub stamp_call : ℕ → Check → List ℕ → Outcome (Unit {0})
 stamp_call g k s = judge (stamp_conditions g (bits s) k) refused (accepted tt)

@@ -1,25 +1,24 @@
--- `sum` equals its definition. Invariant: the running sum, continued over the words that are left, is the sum of all.
--- The measure is what is left of the bytes.
-use Prim.Native.Nat.{ℕ, ◌+◌}
+-- `sum` equals its definition. Each turn takes in one word, and where nothing is left the running sum is that of all.
 use mathlib.Core.Path.{sym, ap, ◌∙◌}
-use lib.ListN.{drop}
-use Rattle.checksum.specs.Checksum.{sum_from, words}
+use Prim.Native.Nat.{ℕ, min}
+use lib.ListN.{length}
+use Rattle.std.proofs.Common.{rules}
+use Rattle.std.specs.Slice.Iter.{chunks_rest}
 use Rattle.checksum.proofs.SumLaws.{sum_start, sum_turn, sum_past}
-use native.Mathlib.Omega.{arith}
 use Rattle.checksum.proofs.sum.Goals as goal
 
-pub loop-i-init : goal.loop-i-init
-loop-i-init c = (omega arith, sym (sum_start _))
+pub loop-pair-init : goal.loop-pair-init
+loop-pair-init c =
+    let begun = ap chunks_rest c.into_iter-pair-iterator.ensures.into_iter_gives ∙ c.chunks-pair-items.ensures.rest in
+    (search rules, tt, search rules, rw begun (sym (sum_start _)))
 
-pub loop-i-preserved : goal.loop-i-preserved
-loop-i-preserved c =
-    let l = c in
-    let w = c.word_at in (
-      c.add_word-r.ensures.1,
-      ap (λ (x : ℕ). sum_from x (words (drop (l.loop-i.i + 2) l.args.s.now))) c.add_word-r.ensures.0
-          ∙ sym (sum_turn _ l.loop-i.r l.loop-i.i w.result c.loop-i-test.true w.ensures.0)
-          ∙ l.loop-i.invariant.1,
-    )
+pub loop-pair-preserved : goal.loop-pair-preserved
+loop-pair-preserved c =
+    let i = c.loop-pair.invariant in
+    let steps = c.in-Some.ensures.steps in
+    let size = ap (λ (n : ℕ). min n (length (chunks_rest c.loop-pair.pair-iterator))) i.2 in
+    let turn = sum_turn (record { whole = steps.1.0; size = steps.1.1 ∙ size; some = steps.1.2 }) c.word_of.ensures c.loop-pair.r in
+    (search rules, tt, steps.0 ∙ i.2, rw c.add_word-r.ensures (sym turn ∙ i.3))
 
 pub returns : goal.returns
-returns c = sym (sum_past _ _ _ c.loop-i-test.false) ∙ c.loop-i.invariant.1
+returns c = sym (sum_past _ c.loop-pair.r c.in-None.ensures.steps.1.0) ∙ c.loop-pair.invariant.3
