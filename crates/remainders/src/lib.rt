@@ -28,14 +28,12 @@ fn cancel(g: Generator, v: u64, j: u32) -> u64
 }
 
 // The remainder of r * x^8 + b.
-fn append(g: Generator, r: u64, b: u64) -> u64
-    requires { Fit g × ((r < 2 ^ g.degree) × (b < 256)) }
+fn append(g: Generator, r: u64, b: u8) -> u64
+    requires { Fit g × (r < 2 ^ g.degree) }
     ensures { result ≡ rem g.degree g.coefficients (r * 256 + b) }
 {
-    let mut v = r * 256 + b;
-    let mut j: u32 = 8;
-    while 0 < j {
-        j -= 1;
+    let mut v = r * 256 + b as u64;
+    for j in (0..8).rev() {
         v = cancel(g, v, j);
     }
     v
@@ -47,10 +45,8 @@ fn register_of(g: Generator, init: u64) -> u64
     ensures { (result < 2 ^ g.degree) × (rem g.degree g.coefficients (result * 2 ^ g.degree) ≡ init) }
 {
     let mut r = init;
-    let mut i: u32 = 0;
-    while i < g.degree {
+    for _ in 0..g.degree {
         r = poly::back(g, r);
-        i += 1;
     }
     r
 }
@@ -61,10 +57,8 @@ fn divide(g: Generator, register: u64, packet: &[u8]) -> u64
     ensures { result ≡ rem g.degree g.coefficients (polynomial_after register packet.now) }
 {
     let mut r = register;
-    let mut i = 0;
-    while i < packet.len() {
-        r = append(g, r, packet[i] as u64);
-        i += 1;
+    for b in packet {
+        r = append(g, r, *b);
     }
     r
 }
@@ -75,10 +69,8 @@ fn divide_by_ccitt(table: &[u16], register: u16, packet: &[u8]) -> u16
     ensures { result ≡ rem ccitt.degree ccitt.coefficients (polynomial_after register packet.now) }
 {
     let mut r = register;
-    let mut i = 0;
-    while i < packet.len() {
-        r = ccitt::append(table, r, packet[i]);
-        i += 1;
+    for b in packet {
+        r = ccitt::append(table, r, *b);
     }
     r
 }

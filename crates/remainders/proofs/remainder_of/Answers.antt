@@ -12,14 +12,9 @@ use Rattle.remainders.proofs.remainder_of.Goals as goal
 
 pub remainder_by_ccitt-requires : goal.remainder_by_ccitt-requires
 remainder_by_ccitt-requires c =
-    let s = c in
-    (fit_by_number s.args.crc.generator ccitt s.requires.fit ccitt_fit (omega (arith, c.if-g.true)), s.requires)
+    (fit_by_number c.args.crc.generator ccitt c.requires.fit ccitt_fit (omega (arith, c.if-g.true)), c.requires)
 
 pub returns : goal.returns
 returns c =
-    let register = c in
-    let known = register in
-    let s = known in
-    ap (λ (x : ℕ). bit_xor x s.args.crc.xorout) c.divide.ensures
-    ∙ register_reads s.args.crc s.args.packet.now register.register_of.result s.requires
-    (λ i. omega (arith, known.shared_slice_known-1.given i)) register.register_of.ensures.1
+    ap (λ (x : ℕ). bit_xor x c.args.crc.xorout) c.divide.ensures
+    ∙ register_reads c.args.crc c.args.packet.now c.register_of.result c.requires (λ i. omega (arith, c.type_inv.packet i)) c.register_of.ensures.1
