@@ -13,12 +13,12 @@ use Rattle.records.specs.Records.{position_bytes, record_of, records, positions_
 use Rattle.records.proofs.PageLaws.{position_bytes-length, record_length}
 
 -- the two bytes of one position
-pub put_turn : (ps out whole : List ℕ) (to i : ℕ) → i < length ps → sets out to (position_bytes (drop i ps)) ≡ whole
-    → sets (set (set out to (get_or ps i 0 / 256)) (to + 1) (get_or ps i 0 % 256)) (to + 2) (position_bytes (drop (i + 1) ps)) ≡ whole
+pub put_turn : (ps out whole : List ℕ) (to i : ℕ) {high low : ℕ} → i < length ps → high ≡ get_or ps i 0 / 256 → low ≡ get_or ps i 0 % 256
+    → sets out to (position_bytes (drop i ps)) ≡ whole → sets (set (set out to high) (to + 1) low) (to + 2) (position_bytes (drop (i + 1) ps)) ≡ whole
 unfolding position_bytes
-put_turn ps out whole to i h e =
+put_turn ps out whole to i h a b e =
     let two : to + 2 ≡ suc (suc to) = omega arith in
-    rw (add-one to, add-one i, two) (rw (drop-cons ps i 0 h) at e)
+    rw (a, b, add-one to, add-one i, two) (rw (drop-cons ps i 0 h) at e)
 
 -- nothing is left after the last
 pub put_done : (ps out : List ℕ) (to i : ℕ) → length ps ≤ i → sets out to (position_bytes (drop i ps)) ≡ out
