@@ -1,11 +1,12 @@
 -- What is taken of a packet decides its check, and that of any packet with flipped bits.
-use mathlib.Core.Path.{◌≡◌, refl, sym, ap, ◌∙◌}
+use mathlib.Core.Path.{◌≡◌, refl, sym, ap, ap₂, ◌∙◌}
 use mathlib.Core.Logic.{◌≢◌}
 use mathlib.Core.List.{List}
-use Prim.Native.Nat.{ℕ, ◌+◌, ◌≤◌}
+use Prim.Native.Nat.{ℕ, ◌+◌, ◌-◌, ◌*◌, ◌≤◌}
 use native.Mathlib.Omega.{arith}
 use borrow.Author.Tests.{eq-eqb, ne_eqb}
-use lib.ListN.{length}
+use lib.ListN.{length, get_or, take, drop, length-drop}
+use lib.Seq.{get_or-drop, take_all}
 use Rattle.packet.specs.Packet.{Bytes}
 use Rattle.checksum.specs.Checksum.{field_of}
 use Rattle.checksum.specs.declared.Check.{Check}
@@ -20,6 +21,14 @@ no_field k s h = simp (eq-eqb _ _ h)
 pub some_field : (k : Check) (s : List ℕ) → k.from ≢ k.to → in_field k s ≡ field_of k.field s
 unfolding in_field
 some_field k s h = simp (ne_eqb _ _ h)
+
+-- the number in a field is the word that the bytes from it on begin with
+pub word_in_field : (f : ℕ) (s : List ℕ)
+    → (let rest = take (length s - f) (drop f s) in get_or rest 0 0 * 256 + get_or rest 1 0) ≡ field_of f s
+unfolding field_of
+word_in_field f s =
+    let all : take (length s - f) (drop f s) ≡ drop f s = take_all (length s - f) (drop f s) (omega (arith, length-drop f s)) in
+    rw all (ap₂ (λ (h l : ℕ). h * 256 + l) (get_or-drop f s 0 0 ∙ ap (λ (n : ℕ). get_or s n 0) (omega arith)) (get_or-drop f s 1 0))
 
 pub weighed_check : {w : Weighed} (k : Check) (s : List ℕ) → w ≡ weighed k s → w.check ≡ k
 weighed_check k s e = ap (λ (w : Weighed). w.check) e

@@ -8,7 +8,7 @@ ghost use Rattle.checksum.specs.Checksum.{total, range, passes};
 ghost use Rattle.checksum.specs.Shares.{multiple, share};
 ghost use Rattle.weighing.specs.Totals.{weight, Changes, Totalled, in_field, weighed, Weighs};
 
-use checksum::{Check, word_at};
+use checksum::{Check, word_of};
 use packet::bit_of;
 
 // A check, with the plain total of its range in one packet, and the number that is in its field there.
@@ -32,10 +32,8 @@ fn total_of(s: &[u8]) -> u64
     ensures { result ≡ total s.now }
 {
     let mut t: u64 = 0;
-    let mut i: usize = 0;
-    while i < s.len() {
-        t += word_at(s, i) as u64;
-        i += 2;
+    for pair in s.chunks(2) {
+        t += word_of(pair) as u64;
     }
     t
 }
@@ -50,7 +48,7 @@ fn number_in_field(check: Check, packet: &[u8]) -> u64
     if to == from {
         return 0;
     }
-    word_at(packet, check.field) as u64
+    word_of(&packet[check.field..]) as u64
 }
 
 // What the check of one packet's candidates needs, taken once.

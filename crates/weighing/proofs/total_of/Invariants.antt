@@ -1,15 +1,13 @@
--- `total_of` equals its definition. Invariant: the running total and that of the words left make the total of all.
--- The measure is what is left of the bytes.
-use Prim.Native.Nat.{◌+◌, ◌-◌, ◌*◌, ◌≤◌}
+-- `total_of` equals its definition. Invariant: the running total and that of the bytes left make the total of all.
+use Prim.Native.Nat.{◌+◌}
 use mathlib.Core.Path.{◌≡◌}
-use lib.ListN.{length, drop}
+use Rattle.std.specs.Slice.Iter.{chunks_rest, chunks_size}
 use Rattle.checksum.specs.Checksum.{total}
 use Rattle.weighing.proofs.total_of.Given as goal
 
-abbrev pub invariant-loop-i : goal.invariant-loop-i
-invariant-loop-i l =
-    (l.t ≤ 65536 * l.i) × (l.t + total (drop l.i l.s) ≡ total l.s)
-
-abbrev pub decreases-loop-i : goal.decreases-loop-i
-decreases-loop-i l =
-    length l.s - l.i
+abbrev pub invariant-loop-pair : goal.invariant-loop-pair
+invariant-loop-pair l =
+    (goal.iterator-loop-pair).can_next l.pair-iterator
+    × (goal.iterator-loop-pair).is_finite l.pair-iterator
+    × (chunks_size l.pair-iterator ≡ 2)
+    × (l.t + total (chunks_rest l.pair-iterator) ≡ total l.s)
