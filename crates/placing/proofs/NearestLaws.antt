@@ -3,6 +3,7 @@
 use mathlib.Core.Path.{◌≡◌, refl, sym, ap, ◌∙◌}
 use mathlib.Core.Bool.{true, false}
 use mathlib.Core.List.{List, [], ◌∷◌}
+use Rattle.std.proofs.Common.{Option, Some, None}
 use Prim.Native.Nat.{ℕ, zero, suc, ◌+◌, ◌-◌, ◌*◌, ◌/◌, ◌<◌, ◌≤◌}
 use native.Mathlib.Omega.{arith}
 use native.Mathlib.Nat.{mod-lt, div-add-mod', mul-le-mul_right, suc-mul}
@@ -12,7 +13,7 @@ use lib.ListN.{length, get_or, set}
 use borrow.Author.Tests.{lt-ltb, le-ltb, eq-eqb, ne_eqb, eqb-true, eqb-false}
 use Rattle.base.proofs.Cases.{by_test, by_order}
 use Rattle.base.proofs.XorLaws.{xor_zero_equal}
-use Rattle.placing.specs.Placing.{Head, first_from, answer, Nearest, Firsts, Lookup, Ready}
+use Rattle.placing.specs.Placing.{Head, headless, starts, first_from, answer, Nearest, Firsts, Lookup, Ready}
 use Rattle.placing.proofs.HeadLaws.{or_else, onto, first_from_zero, first_from_past, first_from-step}
 
 -- the least multiple of c that is at least d
@@ -48,7 +49,7 @@ module _ {power : ℕ → ℕ} {first : List ℕ} {period : ℕ} (t : Firsts pow
           met = λ b. (h, t.hit u within (omega arith));
         }
 
-    pub near_none : (l lo : ℕ) → l ≤ 4096 → (lo ≤ get_or first u 0 → l ≤ get_or first u 0) → l ≤ period → Nearest power l lo u l
+    pub near_none : (l lo : ℕ) → l ≤ 4096 → (lo ≤ get_or first u 0 → l ≤ get_or first u 0) → (get_or first u 0 < lo → l ≤ period) → Nearest power l lo u l
     near_none l lo s h p =
         record {
           skipped = λ q a d c e. let m = least_of q e in none q a c (periods_on q e (omega arith));
@@ -57,7 +58,9 @@ module _ {power : ℕ → ℕ} {first : List ℕ} {period : ℕ} (t : Firsts pow
       where
         none : (q : ℕ) → lo ≤ q → q < l → (k : ℕ) × (q ≡ get_or first u 0 + k * period) → ⊥
         none q a c (zero, e) = let m : l ≤ get_or first u 0 = h (omega arith) in omega arith
-        none q a c (suc k, e) = omega (arith, suc-mul k period)
+        none q a c (suc k, e) =
+            by_order (get_or first u 0) lo (λ b. let m = p b in omega (arith, suc-mul k period))
+            (λ b. let m = h b in omega arith)
 
     -- k periods on from the first, for the least k that reaches lo
     pub near_period : (l lo : ℕ) → l ≤ 4096 → get_or first u 0 < lo → lo ≤ l → 1 ≤ period
@@ -76,6 +79,10 @@ module _ {power : ℕ → ℕ} {first : List ℕ} {period : ℕ} (t : Firsts pow
         below q a d (k, e) =
             let m = multiple_below k ((lo - get_or first u 0 + period - 1) / period) period (lo - get_or first u 0) bounds.1 (omega arith) in
             omega arith
+
+-- past the end it is as good as at the end
+pub near_end : {power : ℕ → ℕ} {l lo u p : ℕ} → l ≤ p → Nearest power l lo u p → Nearest power l lo u l
+near_end h n = record { skipped = λ q a b. n.skipped q a (omega arith); met = λ x. absurd (omega arith) }
 
 module _ (power : ℕ → ℕ) where
   xor_miss : (u w : ℕ) → (w ≡ u → ⊥) → eqb 0 (bit_xor u w) ≡ false
@@ -113,6 +120,20 @@ module _ (power : ℕ → ℕ) where
                 (by_order lo p (λ c. omega arith) (λ c. let e : lo ≡ p = omega (arith, m.0) in absurd (miss (ap power e ∙ m.1))), m.1);
           }
 
+-- what was found of the nearest position, as a set of one
+abbrev pub alone : Option ℕ → Head
+alone (Some p) = starts (p ∷ [])
+alone None = headless
+
+-- what was found is the nearest
+abbrev pub NearestIn : (ℕ → ℕ) → ℕ → ℕ → ℕ → Option ℕ → Type 0
+NearestIn power l lo u (Some p) = (p < l) × Nearest power l lo u p
+NearestIn power l lo u None = Nearest power l lo u l
+
+pub first_alone : (power : ℕ → ℕ) (l lo u : ℕ) → lo ≤ l → (r : Option ℕ) → NearestIn power l lo u r → first_from power l 1 lo u ≡ alone r
+first_alone power l lo u h (Some p) n = nearest_first power l u p (l - lo) lo (omega arith) n.1 ∙ rw (lt-ltb p l n.0)
+first_alone power l lo u h None n = nearest_first power l u l (l - lo) lo (omega arith) n ∙ rw (le-ltb l l (omega arith))
+
 -- one position placed: the search goes on behind it, from any place on, and past it
 pub ready_next : {pow first : List ℕ} {period lo u : ℕ} → Ready pow first period lo u → (a : ℕ) → a < length pow → {from : ℕ} → from ≤ length pow
     → Ready pow first period from (bit_xor u (get_or pow a 0))
@@ -132,12 +153,12 @@ module _ {power : ℕ → ℕ} {pow first : List ℕ} {period : ℕ} (t : Lookup
       (sym (t.known a h))
 
   -- with the last one looked up
-  pub pair_turn : (a u b : ℕ) → a < length pow → {from : ℕ} → from ≡ a + 1 → Nearest power (length pow) from (bit_xor u (get_or pow a 0)) b
-      → first_from power (length pow) 2 a u ≡ or_else (onto a (answer (ltb b (length pow)) (b ∷ []))) (first_from power (length pow) 2 (a + 1) u)
-  pair_turn a u b h e n =
+  pub pair_turn : (a u : ℕ) → a < length pow → {from : ℕ} → from ≡ a + 1 → (r : Option ℕ) → NearestIn power (length pow) from (bit_xor u (get_or pow a 0)) r
+      → first_from power (length pow) 2 a u ≡ or_else (onto a (alone r)) (first_from power (length pow) 2 (a + 1) u)
+  pair_turn a u h e r n =
       place_turn 1 a u h
       ∙ ap (λ (x : Head). or_else (onto a x) (first_from power (length pow) 2 (a + 1) u))
-      (nearest_first power (length pow) (bit_xor u (get_or pow a 0)) b (length pow - (a + 1)) (a + 1) (omega arith) (rw e at n))
+      (first_alone power (length pow) (a + 1) (bit_xor u (get_or pow a 0)) (omega arith) r (rw e at n))
 
 -- what the stores leave in a slice of one and of two
 pub set_one : (xs : List ℕ) (a : ℕ) → length xs ≡ 1 → set xs 0 a ≡ a ∷ []

@@ -2,18 +2,18 @@
 use mathlib.Core.Path.{◌≡◌, refl, sym, ap, ap₂, ◌∙◌}
 use mathlib.Core.Bool.{Bool, true, false}
 use mathlib.Core.List.{List, [], ◌∷◌, ◌++◌, append-nil}
+use Rattle.std.proofs.Common.{Option}
 use Prim.Native.Nat.{ℕ, suc, ◌+◌, ◌-◌, ◌<◌, ◌≤◌}
 use native.Mathlib.Omega.{arith}
 use lib.Bits.{bit_xor}
-use lib.Dec.{ltb}
 use lib.ListN.{length, get_or, take, drop, set}
 use lib.Seq.{drop-length, take-length}
 use borrow.Rule.Slice.PartMut.{mid_of, put_mid, mid_len}
 use Rattle.base.specs.Lists.{Ascending, ends, next}
 use Rattle.base.proofs.ListLaws.{ascending_from}
-use Rattle.placing.specs.Placing.{Head, starts, first_from, first_after, answer, Lookup, Nearest}
+use Rattle.placing.specs.Placing.{Head, starts, first_from, first_after, answer, Lookup}
 use Rattle.placing.proofs.HeadLaws.{or_else, onto, first_after_cons, first_after_empty}
-use Rattle.placing.proofs.NearestLaws.{place_turn, nearest_first}
+use Rattle.placing.proofs.NearestLaws.{place_turn, alone, NearestIn, first_alone}
 
 pub tail_length : (xs : List ℕ) → length (mid_of 1 (length xs - 1) xs) ≡ length xs - 1
 tail_length xs = mid_len 1 (length xs) xs (omega arith)
@@ -81,23 +81,22 @@ module _ {power : ℕ → ℕ} {pow first : List ℕ} {period : ℕ} (t : Lookup
       resume_turn t u xs asc room
       ∙ ap (λ (x : Head). or_else (onto (get_or xs 0 0) x) (first_from power (length pow) (length xs) (get_or xs 0 0 + 1) u)) (sym told)
 
-  pub resume_hit : r ≡ true → starts (put_mid 1 (length xs - 1) xs ys) ≡ first_after power (length pow) xs u
-  resume_hit e = ap starts (tail_back xs ys room) ∙ sym (after ∙ rw e)
+  pub resume_hit : r ≡ true → answer r (put_mid 1 (length xs - 1) xs ys) ≡ first_after power (length pow) xs u
+  resume_hit e = rw e (ap starts (tail_back xs ys room) ∙ sym (after ∙ rw e))
 
   pub resume_miss : r ≡ false → first_from power (length pow) (length (put_mid 1 (length xs - 1) xs ys)) (get_or xs 0 0 + 1) u ≡ first_after power (length pow) xs u
   resume_miss e =
       ap (λ (k : ℕ). first_from power (length pow) k (get_or xs 0 0 + 1) u) (tail_back_length xs ys room same) ∙ sym (after ∙ rw e)
 
 -- after a set of two: the nearest past its last position decides of those that start as it does
-pub pair_after : {power : ℕ → ℕ} {pow first : List ℕ} {period : ℕ} (t : Lookup power pow first period) (u b : ℕ) (xs : List ℕ)
+pub pair_after : {power : ℕ → ℕ} {pow first : List ℕ} {period : ℕ} (t : Lookup power pow first period) (u : ℕ) (xs : List ℕ)
     → length xs ≡ 2 → Ascending (length pow) 0 xs → {from : ℕ} → from ≡ get_or xs 1 0 + 1
-    → Nearest power (length pow) from (bit_xor u (get_or pow (get_or xs 0 0) 0)) b
-    → first_after power (length pow) xs u
-    ≡ or_else (onto (get_or xs 0 0) (answer (ltb b (length pow)) (b ∷ []))) (first_from power (length pow) 2 (get_or xs 0 0 + 1) u)
-pair_after t u b [] e asc f n = absurd (omega arith)
-pair_after t u b (p ∷ []) e asc f n = absurd (omega arith)
-pair_after t u b (p ∷ q ∷ x ∷ xs) e asc f n = absurd (omega arith)
-pair_after {power} {pow} t u b (p ∷ q ∷ []) e asc f n =
+    → (r : Option ℕ) → NearestIn power (length pow) from (bit_xor u (get_or pow (get_or xs 0 0) 0)) r
+    → first_after power (length pow) xs u ≡ or_else (onto (get_or xs 0 0) (alone r)) (first_from power (length pow) 2 (get_or xs 0 0 + 1) u)
+pair_after t u [] e asc f r n = absurd (omega arith)
+pair_after t u (p ∷ []) e asc f r n = absurd (omega arith)
+pair_after t u (p ∷ q ∷ x ∷ xs) e asc f r n = absurd (omega arith)
+pair_after {power} {pow} t u (p ∷ q ∷ []) e asc f r n =
     let l = length pow in
     let v = bit_xor u (get_or pow p 0) in
     let tail = tail_ascends asc (omega arith) in
@@ -106,7 +105,7 @@ pair_after {power} {pow} t u b (p ∷ q ∷ []) e asc f n =
     ∙ ap (λ (x : Head). or_else (onto p x) (first_from power l 2 (p + 1) u))
     (resume_turn t v (q ∷ []) tail (omega arith)
     ∙ ap (λ (x : Head). or_else (onto q x) (first_from power l 1 (q + 1) v)) (first_after_empty power l (bit_xor v (get_or pow q 0)) [] refl)
-    ∙ nearest_first power l v b (l - (q + 1)) (q + 1) (omega arith) (rw f at n))
+    ∙ first_alone power l (q + 1) v (omega arith) r (rw f at n))
 
 pub second_below : {l : ℕ} {xs : List ℕ} → Ascending l 0 xs → length xs ≡ 2 → get_or xs 1 0 < l
 second_below ends h = absurd (omega arith)

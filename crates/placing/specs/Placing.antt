@@ -1,9 +1,10 @@
 -- What placing positions goes through and what it answers, over any powers: the sets of so many positions whose powers have a given
 -- sum, and the first of them.
-use Rattle.std.specs.Prelude.{ℕ, zero, ◌+◌, ◌-◌, ◌*◌, ◌^◌, ◌≤◌, ◌<◌, ◌≡◌, Bool, true, false, List, [], ◌∷◌, eqb, length, get_or}
+use Rattle.std.specs.Prelude.{ℕ, zero, ◌+◌, ◌-◌, ◌*◌, ◌^◌, ◌≤◌, ◌<◌, ◌≡◌, Bool, true, false, List, [], ◌∷◌, Option, Some, None, eqb, length, get_or}
 use Rattle.std.specs.Int.Bits.{bit_xor}
 use Rattle.patterns.specs.Order.{lower}
 use Rattle.patterns.specs.Listing.{choose, sift}
+use Rattle.placing.specs.declared.Powers.{Powers}
 
 -- the sum of the powers at the given positions
 unfoldable pub xor_all : (ℕ → ℕ) → List ℕ → ℕ
@@ -71,7 +72,23 @@ pub record Ready (pow first : List ℕ) (period lo u : ℕ) : Type 0 where
   pub start : lo ≤ length pow
   pub sum : u < 2 ^ n
 
--- what placing k positions from lo on answers, for whatever powers the tables describe
-abbrev pub Placed : List ℕ → List ℕ → ℕ → ℕ → ℕ → ℕ → Bool → List ℕ → Type 0
-Placed pow first period k lo u r pos =
-    (power : ℕ → ℕ) → Lookup power pow first period → answer r pos ≡ first_from power (length pow) k lo u
+-- the tables that a search reads lie so
+abbrev pub ReadyFor : Powers → ℕ → ℕ → Type 0
+ReadyFor t lo u = Ready t.powers.now t.firsts.now t.period lo u
+
+-- these are the powers that they describe
+abbrev pub Describes : (ℕ → ℕ) → Powers → Type 0
+Describes power t = Lookup power t.powers.now t.firsts.now t.period
+
+-- what looking for the nearest position below l answers, for whatever powers the tables describe: its place, or nothing
+abbrev pub NearestFound : Powers → ℕ → ℕ → ℕ → Option ℕ → Type 0
+NearestFound t l lo u (Some p) = (p < l) × ((power : ℕ → ℕ) → Describes power t → Nearest power l lo u p)
+NearestFound t l lo u None = (power : ℕ → ℕ) → Describes power t → Nearest power l lo u l
+
+-- what placing k positions from lo on answers
+abbrev pub Placed : Powers → ℕ → ℕ → ℕ → Bool → List ℕ → Type 0
+Placed t k lo u r pos = (power : ℕ → ℕ) → Describes power t → answer r pos ≡ first_from power (length t.powers.now) k lo u
+
+-- what going on from the positions ps answers
+abbrev pub Resumed : Powers → ℕ → List ℕ → Bool → List ℕ → Type 0
+Resumed t u ps r pos = (power : ℕ → ℕ) → Describes power t → answer r pos ≡ first_after power (length t.powers.now) ps u

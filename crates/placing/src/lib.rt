@@ -1,156 +1,142 @@
 // Positions placed one after the other, so that their powers have a given sum: all but the last are forced, and the last is looked
-// up. `pow` holds the powers of x at the positions below its length, `first` the first position of each remainder. Contracts hold
-// for any powers that the two tables describe.
+// up. Contracts hold for any powers that the two tables describe.
 #![tactic(auto)]
 
-ghost use Rattle.std.specs.Prelude.{◌≡◌, ℕ, ◌≤◌, length};
+ghost use Rattle.std.specs.Prelude.{◌≡◌, ◌≤◌, length};
 ghost use Rattle.base.specs.Lists.{Ascending};
-ghost use Rattle.placing.specs.Placing.{answer, first_after, Lookup, Nearest, Placed, Ready};
+ghost use Rattle.placing.specs.Placing.{
+  Resumed,
+  NearestFound,
+  Placed,
+  ReadyFor,
+};
 
-// The least position at or past `lo` and below `end` whose power is `u`, by the first one and the period. What it returns is at or
-// past `end` where there is none. The first test asks whether the first position is at or past `lo` and below `end`, both at once:
-// nearly every trial fails it, and a second test would be a gamble. The second test is about the length of `pow`, and not about
-// `end`, so that a loop in which `end` moves can ask it once.
-pub fn nearest_below(
-    pow: &[u32],
-    first: &[u16],
-    period: usize,
-    lo: usize,
-    end: usize,
-    u: usize,
-) -> usize
-    requires { Ready pow.now first.now period lo u × (lo ≤ end) × (end ≤ length pow.now) }
-    ensures { (power : ℕ → ℕ) → Lookup power pow.now first.now period → Nearest power end lo u result }
-{
-    let f = first[u] as usize;
-    if (f + 65536 - lo) % 65536 < end - lo {
-        return f;
-    }
-    if pow.len() <= period {
-        return end;
-    }
-    if lo <= f {
-        return f;
-    }
-    f + (lo - f + period - 1) / period * period
+// The powers of x at the positions below a length, the first position of each remainder, and the period.
+#[derive(Clone, Copy)]
+pub struct Powers<'a> {
+    pub powers: &'a [u32],
+    pub firsts: &'a [u16],
+    pub period: usize,
 }
 
-// The same below the end of `pow`.
-pub fn nearest(pow: &[u32], first: &[u16], period: usize, lo: usize, u: usize) -> usize
-    requires { Ready pow.now first.now period lo u }
-    ensures { (power : ℕ → ℕ) → Lookup power pow.now first.now period → Nearest power (length pow.now) lo u result }
-{
-    nearest_below(pow, first, period, lo, pow.len(), u)
-}
-
-// Places one position.
-fn single(pow: &[u32], first: &[u16], period: usize, lo: usize, u: usize, pos: &mut [u16]) -> bool
-    requires { Ready pow.now first.now period lo u × (length pos.old ≡ 1) }
-    ensures { Placed pow.now first.now period 1 lo u result pos.new }
-{
-    let p = nearest(pow, first, period, lo, u);
-    if p < pow.len() {
-        pos[0] = p as u16;
-        return true;
+impl<'a> Powers<'a> {
+    // The least position at or past `lo` and below `end` whose power is `u`, by the first one and the period. The first test asks
+    // whether the first position is at or past `lo` and below `end`, both at once: nearly every trial fails it, and a second test
+    // would be a gamble. The second test is about the length of the powers, and not about `end`, so that a loop in which `end`
+    // moves can ask it once.
+    pub fn nearest_below(self, lo: usize, end: usize, u: usize) -> Option<usize>
+        requires { ReadyFor self lo u × (lo ≤ end) × (end ≤ length self.powers.now) }
+        ensures { NearestFound self.entry end lo u result }
+    {
+        let f = self.firsts[u] as usize;
+        if (f + 65536 - lo) % 65536 < end - lo {
+            return Some(f);
+        }
+        if self.powers.len() <= self.period || lo <= f {
+            return None;
+        }
+        let p = f + (lo - f + self.period - 1) / self.period * self.period;
+        if p < end { Some(p) } else { None }
     }
-    false
-}
 
-// Places two positions: the first goes through the positions, and the second is looked up.
-fn pair(pow: &[u32], first: &[u16], period: usize, lo: usize, u: usize, pos: &mut [u16]) -> bool
-    requires { Ready pow.now first.now period lo u × (length pos.old ≡ 2) }
-    ensures { Placed pow.now first.now period 2 lo u result pos.new }
-{
-    let l = pow.len();
-    let mut a = lo;
-    while a < l {
-        let b = nearest(pow, first, period, a + 1, u ^ (pow[a] as usize));
-        if b < l {
-            pos[0] = a as u16;
+    // The same below the length of the powers.
+    pub fn nearest(self, lo: usize, u: usize) -> Option<usize>
+        requires { ReadyFor self lo u }
+        ensures { NearestFound self.entry (length self.entry.powers.now) lo u result }
+    {
+        self.nearest_below(lo, self.powers.len(), u)
+    }
+
+    // Places one position.
+    fn single(self, lo: usize, u: usize, pos: &mut [u16]) -> bool
+        requires { ReadyFor self lo u × (length pos.old ≡ 1) }
+        ensures { Placed self.entry 1 lo u result pos.new }
+    {
+        match self.nearest(lo, u) {
+            Some(p) => {
+                pos[0] = p as u16;
+                true
+            }
+            None => false,
+        }
+    }
+
+    // Places two positions: the first goes through the positions, and the second is looked up.
+    fn pair(self, lo: usize, u: usize, pos: &mut [u16]) -> bool
+        requires { ReadyFor self lo u × (length pos.old ≡ 2) }
+        ensures { Placed self.entry 2 lo u result pos.new }
+    {
+        for a in lo..self.powers.len() {
+            if let Some(b) = self.nearest(a + 1, u ^ (self.powers[a] as usize)) {
+                pos[0] = a as u16;
+                pos[1] = b as u16;
+                return true;
+            }
+        }
+        false
+    }
+
+    // Places at most two positions.
+    fn few(self, lo: usize, u: usize, pos: &mut [u16]) -> bool
+        requires { ReadyFor self lo u × (length pos.old ≤ 2) }
+        ensures { Placed self.entry (length pos.old) lo u result pos.new }
+    {
+        if pos.len() == 2 {
+            return self.pair(lo, u, pos);
+        }
+        if pos.len() == 1 {
+            return self.single(lo, u, pos);
+        }
+        u == 0
+    }
+
+    // Places as many positions as `pos` has room for: the first goes through the positions, and the others are placed
+    // behind it.
+    pub fn place(self, lo: usize, u: usize, pos: &mut [u16]) -> bool
+        requires { ReadyFor self lo u }
+        ensures { Placed self.entry (length pos.old) lo u result pos.new }
+    {
+        if pos.len() <= 2 {
+            return self.few(lo, u, pos);
+        }
+        for a in lo..self.powers.len() {
+            let v = u ^ (self.powers[a] as usize);
+            if self.place(a + 1, v, &mut pos[1..]) {
+                pos[0] = a as u16;
+                return true;
+            }
+        }
+        false
+    }
+
+    // Goes on from two positions. It is `resume` for two, and spelt out since a repair does it for each set.
+    fn resume_pair(self, u: usize, pos: &mut [u16]) -> bool
+        requires { ReadyFor self 0 u × (length pos.old ≡ 2) × Ascending (length self.powers.now) 0 pos.old }
+        ensures { Resumed self.entry u pos.old result pos.new }
+    {
+        let p = pos[0] as usize;
+        let q = pos[1] as usize;
+        if let Some(b) = self.nearest(q + 1, u ^ (self.powers[p] as usize)) {
             pos[1] = b as u16;
             return true;
         }
-        a += 1;
+        self.pair(p + 1, u, pos)
     }
-    false
-}
 
-// Places at most two positions.
-fn few(pow: &[u32], first: &[u16], period: usize, lo: usize, u: usize, pos: &mut [u16]) -> bool
-    requires { Ready pow.now first.now period lo u × (length pos.old ≤ 2) }
-    ensures { Placed pow.now first.now period (length pos.old) lo u result pos.new }
-{
-    if pos.len() == 2 {
-        return pair(pow, first, period, lo, u, pos);
-    }
-    if pos.len() == 1 {
-        return single(pow, first, period, lo, u, pos);
-    }
-    if u == 0 {
-        return true;
-    }
-    false
-}
-
-// Places as many positions as `pos` has room for: the first goes through the positions, and the others are placed
-// behind it.
-pub fn place(
-    pow: &[u32],
-    first: &[u16],
-    period: usize,
-    lo: usize,
-    u: usize,
-    pos: &mut [u16],
-) -> bool
-    requires { Ready pow.now first.now period lo u }
-    ensures { Placed pow.now first.now period (length pos.old) lo u result pos.new }
-{
-    if pos.len() <= 2 {
-        return few(pow, first, period, lo, u, pos);
-    }
-    let mut a = lo;
-    while a < pow.len() {
-        let v = u ^ (pow[a] as usize);
-        if place(pow, first, period, a + 1, v, &mut pos[1..]) {
-            pos[0] = a as u16;
-            return true;
+    // Goes on from the positions in `pos`, which need not have the sum `u`: to the first set of as many positions that
+    // comes after them.
+    pub fn resume(self, u: usize, pos: &mut [u16]) -> bool
+        requires { ReadyFor self 0 u × Ascending (length self.powers.now) 0 pos.old }
+        ensures { Resumed self.entry u pos.old result pos.new }
+    {
+        if pos.len() == 0 {
+            return false;
         }
-        a += 1;
+        if pos.len() == 2 {
+            return self.resume_pair(u, pos);
+        }
+        let p = pos[0] as usize;
+        let v = u ^ (self.powers[p] as usize);
+        self.resume(v, &mut pos[1..]) || self.place(p + 1, u, pos)
     }
-    false
-}
-
-// Goes on from two positions. It is `resume` for two, and spelt out since a repair does it for each set.
-fn resume_pair(pow: &[u32], first: &[u16], period: usize, u: usize, pos: &mut [u16]) -> bool
-    requires { Ready pow.now first.now period 0 u × (length pos.old ≡ 2) × Ascending (length pow.now) 0 pos.old }
-    ensures { (power : ℕ → ℕ) → Lookup power pow.now first.now period → answer result pos.new ≡ first_after power (length pow.now) pos.old u }
-{
-    let p = pos[0] as usize;
-    let q = pos[1] as usize;
-    let b = nearest(pow, first, period, q + 1, u ^ (pow[p] as usize));
-    if b < pow.len() {
-        pos[1] = b as u16;
-        return true;
-    }
-    pair(pow, first, period, p + 1, u, pos)
-}
-
-// Goes on from the positions in `pos`, which need not have the sum `u`: to the first set of as many positions that
-// comes after them.
-pub fn resume(pow: &[u32], first: &[u16], period: usize, u: usize, pos: &mut [u16]) -> bool
-    requires { Ready pow.now first.now period 0 u × Ascending (length pow.now) 0 pos.old }
-    ensures { (power : ℕ → ℕ) → Lookup power pow.now first.now period → answer result pos.new ≡ first_after power (length pow.now) pos.old u }
-{
-    if pos.len() == 0 {
-        return false;
-    }
-    if pos.len() == 2 {
-        return resume_pair(pow, first, period, u, pos);
-    }
-    let p = pos[0] as usize;
-    let v = u ^ (pow[p] as usize);
-    if resume(pow, first, period, v, &mut pos[1..]) {
-        return true;
-    }
-    place(pow, first, period, p + 1, u, pos)
 }

@@ -4,13 +4,13 @@ use Rattle.std.proofs.Common.{length, get_or, sym, ◌∙◌, arith}
 use Rattle.placing.proofs.HeadLaws.{first_after_empty}
 use Rattle.placing.proofs.NearestLaws.{ready_next, ready_at}
 use Rattle.placing.proofs.TailLaws.{tail_length, head_below, tail_ascends, resume_hit, resume_miss}
-use Rattle.placing.proofs.+resume.Goals as goal
+use Rattle.placing.proofs.Powers.+resume.Goals as goal
 
 pub returns-then-pos-eq0 : goal.returns-then-pos-eq0
-returns-then-pos-eq0 t c power l = sym (first_after_empty power (length c.args.pow.now) c.args.u c.args.pos.now (omega arith))
+returns-then-pos-eq0 t c power l = sym (first_after_empty power (length c.args.self.powers.now) c.args.u c.args.pos.now (omega arith))
 
-pub bounds-pow-p : goal.bounds-pow-p
-bounds-pow-p t c = head_below c.requires.1 (omega arith)
+pub bounds-self-p : goal.bounds-self-p
+bounds-self-p t c = head_below c.requires.1 (omega arith)
 
 pub resume-requires : goal.resume-requires
 resume-requires t c =
@@ -18,11 +18,6 @@ resume-requires t c =
       omega (arith, tail_length c.args.pos.now, c.decreases),
       (ready_next c.requires.0 (get_or c.args.pos.now 0 0) h (omega arith), tail_ascends c.requires.1 (omega arith)),
     )
-
-pub returns-then-resume : goal.returns-then-resume
-returns-then-resume t c power l =
-    let r = c.resume in
-    resume_hit l c.args.u c.args.pos.now r.new.pos r.result c.requires.1 (omega arith) r.auto.pos (r.ensures power l) c.if-resume.true
 
 pub overflow_add-p : goal.overflow_add-p
 overflow_add-p t c = omega (arith, head_below c.requires.1 (omega arith))
@@ -32,8 +27,13 @@ place-requires t c =
     let h = head_below c.requires.1 (omega arith) in
     ready_at c.requires.0 (omega arith)
 
-pub returns : goal.returns
-returns t c power l =
+pub returns-then-resume : goal.returns-then-resume
+returns-then-resume t c power l =
+    let r = c.resume in
+    resume_hit l c.args.u c.args.pos.now r.new.pos r.result c.requires.1 (omega arith) r.auto.pos (r.ensures power l) c.if-resume.true
+
+pub returns-else-resume : goal.returns-else-resume
+returns-else-resume t c power l =
     let r = c.resume in
     c.place.ensures power l
     ∙ resume_miss l c.args.u c.args.pos.now r.new.pos r.result c.requires.1 (omega arith) r.auto.pos (r.ensures power l) c.if-resume.false

@@ -5,37 +5,36 @@ use Rattle.placing.specs.Placing.{first_from}
 use Rattle.placing.proofs.HeadLaws.{first_from_past}
 use Rattle.placing.proofs.NearestLaws.{ready_next}
 use Rattle.placing.proofs.TailLaws.{tail_length, tail_back_length, place_hit, place_miss}
-use Rattle.placing.proofs.+place.Goals as goal
+use Rattle.placing.proofs.Powers.+place.Goals as goal
 
 pub place-requires : goal.place-requires
 place-requires t c =
     let i = c.loop-a in
-    (omega (arith, tail_length i.pos, c.decreases), ready_next c.requires i.a c.loop-a-test.true (omega arith))
+    (omega (arith, tail_length i.pos, c.decreases), ready_next c.requires i.a (omega arith) (omega arith))
 
 pub returns-then-place : goal.returns-then-place
 returns-then-place t c power l =
     let i = c.loop-a in
     let p = c.place in
-    place_hit l i.a c.args.u (length c.args.pos.now) i.pos p.new.pos p.result (omega arith) i.invariant.2 c.loop-a-test.true _ (omega arith) (p.ensures power l) c.if-place.true
-    ∙ sym (i.invariant.3 power l)
+    place_hit l i.a c.args.u (length c.args.pos.now) i.pos p.new.pos p.result (omega arith) i.invariant.0 (omega arith) _ (omega arith) (p.ensures power l) c.if-place.true
+    ∙ sym (i.invariant.1 power l)
 
 pub loop-a-preserved : goal.loop-a-preserved
 loop-a-preserved t c =
     let i = c.loop-a in
     let p = c.place in (
-      omega arith,
-      omega arith,
-      tail_back_length i.pos p.new.pos (omega arith) p.auto.pos ∙ i.invariant.2,
+      tail_back_length i.pos p.new.pos (omega arith) p.auto.pos ∙ i.invariant.0,
       λ power l.
-          i.invariant.3 power l
-          ∙ place_miss l i.a c.args.u (length c.args.pos.now) i.pos p.new.pos p.result (omega arith) i.invariant.2 c.loop-a-test.true _ (omega arith) (p.ensures power l) c.if-place.false,
+          i.invariant.1 power l
+          ∙ place_miss l i.a c.args.u (length c.args.pos.now) i.pos p.new.pos p.result (omega arith) i.invariant.0 (omega arith) _ (omega arith) (p.ensures power l) c.if-place.false,
     )
 
 pub returns : goal.returns
 returns t c power l =
     let n = length c.args.pos.now in
+    let i = c.loop-a in
     let e : n ≡ suc (n - 1) = omega arith in
     sym
-    (c.loop-a.invariant.3 power l
-    ∙ ap (λ (k : ℕ). first_from power (length c.args.pow.now) k c.loop-a.a c.args.u) e
-    ∙ first_from_past power (length c.args.pow.now) (n - 1) c.loop-a.a c.args.u c.loop-a-test.false)
+    (i.invariant.1 power l
+    ∙ ap (λ (k : ℕ). first_from power (length c.args.self.powers.now) k i.a c.args.u) e
+    ∙ first_from_past power (length c.args.self.powers.now) (n - 1) i.a c.args.u (omega arith))
