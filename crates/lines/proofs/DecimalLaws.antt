@@ -5,6 +5,8 @@ use Prim.Native.Nat.{ℕ, zero, suc, ◌+◌, ◌-◌, ◌*◌, ◌/◌, ◌%◌
 use native.Mathlib.Omega.{arith}
 use lib.ListN.{length, get_or, length-append, get_or-append}
 use borrow.Author.Tests.{lt-ltb, le-ltb}
+use Rattle.std.specs.Fmt.{decimal as std_decimal}
+use Rattle.std.proofs.lemmas.Fmt.{decimal_digit as std_decimal_digit, decimal_step as std_decimal_step}
 use Rattle.base.specs.Lists.{All, none, each}
 use Rattle.base.proofs.Cases.{by_order}
 use Rattle.parsing.specs.Input.{Digit, value_from, value_of}
@@ -99,6 +101,18 @@ decimal-length (suc k) v h =
     (λ l. rw (decimal_small v l) (omega arith))
     (λ l. rw (decimal_step v l) (simp length-append (omega (arith, decimal-length k (v / 10) (omega arith)))))
 
--- one of two bytes fits where there is room for five digits
-pub two_bytes_fit : {v room : ℕ} (to : ℕ) → v < 65536 → to + 5 ≤ room → to + length (decimal v) ≤ room
-two_bytes_fit {v} to h k = omega (arith, decimal-length 4 v (omega arith))
+pub digits_u8 : (v : ℕ) → v < 2 ^ 8 → length (decimal v) ≤ 3
+digits_u8 v h = decimal-length 2 v (omega arith)
+
+pub digits_u16 : (v : ℕ) → v < 2 ^ 16 → length (decimal v) ≤ 5
+digits_u16 v h = decimal-length 4 v (omega arith)
+
+pub digits_u64 : (v : ℕ) → v < 2 ^ 64 → length (decimal v) ≤ 20
+digits_u64 v h = decimal-length 19 v (omega arith)
+
+-- it is what std prints of a number of 64 bits
+pub printed_decimal : (v : ℕ) → v < 2 ^ 64 → std_decimal v ≡ decimal v
+printed_decimal =
+    by_tens (λ (v : ℕ). v < 2 ^ 64 → std_decimal v ≡ decimal v)
+    (λ v l h. std_decimal_digit v l ∙ sym (decimal_small v l))
+    (λ v l ih h. std_decimal_step v l h ∙ ap (λ (ds : List ℕ). ds ++ ((48 + v % 10) ∷ [])) (ih (omega arith)) ∙ sym (decimal_step v l))

@@ -4,7 +4,7 @@ use mathlib.Core.List.{List, [], ◌∷◌, ◌++◌}
 use Prim.Native.Nat.{ℕ, ◌+◌, ◌≤◌}
 use native.Mathlib.Omega.{arith}
 use lib.ListN.{length, take, set, length-append}
-use lib.Seq.{sets, length-sets, length-take-le, take_at}
+use lib.Seq.{sets, length-sets, take_at}
 use Rattle.lines.specs.Decimal.{decimal}
 use Rattle.lines.specs.Writing.{Stored, Front}
 use Rattle.lines.proofs.StoreLaws.{sets_append, sets_start}
@@ -14,9 +14,6 @@ pub record Writing (out₀ : List ℕ) (to : ℕ) (whole out : List ℕ) (next :
   pub place : next + length rest ≡ to + length whole
   pub bytes : sets out next rest ≡ sets out₀ to whole
   pub size : length out ≡ length out₀
-
-pub writing_start : (out : List ℕ) (to : ℕ) (text : List ℕ) → Writing out to text out to text
-writing_start out to text = record { place = refl; bytes = refl; size = refl }
 
 module _ {out₀ : List ℕ} {to : ℕ} {whole out : List ℕ} {next : ℕ} where
   -- the first part of what is to come is stored
@@ -49,12 +46,6 @@ stored_joined {out} {mid} {after} {to} {middle} {next} word text g h =
 -- a number is stored as any that equals it
 pub stored_as : {out : List ℕ} {to v q next : ℕ} {after : List ℕ} → Stored out to (decimal v) next after → v ≡ q → Stored out to (decimal q) next after
 stored_as h e = rw e at h
-
-pub front_of : (n : ℕ) (xs : List ℕ) → n ≤ length xs → Front n xs
-front_of n xs h = (h, sym (length-take-le n xs h))
-
-pub stored_front : {out : List ℕ} {to : ℕ} {text : List ℕ} {next : ℕ} {after : List ℕ} → Stored out to text next after → next ≤ length out → Front next after
-stored_front {out} {to} {text} {next} {after} h l = front_of next after (omega (arith, ap length h.bytes, length-sets out to text))
 
 -- a text stored from the start on can be taken from there
 pub stored_text : {out : List ℕ} {text : List ℕ} {n : ℕ} {after : List ℕ} → Stored out 0 text n after → Front n after → take n after ≡ text

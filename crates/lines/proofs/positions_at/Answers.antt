@@ -1,45 +1,49 @@
--- `positions_at` writes the positions with their blanks. Invariant: what is stored, with the positions left, is the whole text.
-use mathlib.Core.Path.{◌≡◌}
-use mathlib.Core.List.{◌++◌}
-use Prim.Native.Nat.{◌+◌, ◌-◌, ◌*◌, ◌<◌}
-use borrow.Author.Rules.{rules}
-use lib.ListN.{get_or, drop, length-set}
+-- `positions_at` writes a position's blank and digits in each turn.
+use Rattle.std.proofs.Common.{◌≡◌, ◌∙◌, ℕ, List, ◌++◌, length-append, length-set, ◌+◌, ◌*◌, ◌/◌, length, get_or, arith}
+use Rattle.std.specs.Slice.Iter.{chunks_exact_rest}
 use Rattle.lines.specs.Decimal.{decimal}
 use Rattle.lines.specs.Text.{spaced}
 use Rattle.lines.specs.Writing.{Stored}
 use Rattle.records.specs.Records.{positions_in}
-use Rattle.lines.proofs.DecimalLaws.{decimal-length, two_bytes_fit}
-use Rattle.lines.proofs.RecordLaws.{spaced-step, spaced_none}
-use Rattle.lines.proofs.WritingLaws.{writing_start, writing_byte, writing_part, writing_stored, stored_as}
-use native.Mathlib.Omega.{arith}
+use Rattle.lines.proofs.DecimalLaws.{digits_u16}
+use Rattle.lines.proofs.RecordLaws.{spaced_none, spaced_pair}
+use Rattle.lines.proofs.WritingLaws.{writing_byte, writing_part, writing_stored, stored_as}
 use Rattle.lines.proofs.positions_at.Goals as goal
 
-pub loop-left-init : goal.loop-left-init
-loop-left-init c =
-    let a = c.args in
-    (search rules, omega arith, writing_start a.out.now a.to _)
+-- what is left holds the two bytes of a position more
+two_more : {before : List ℕ} (pair rest : List ℕ) → before ≡ pair ++ rest → length pair ≡ 2 → length before ≡ 2 + length rest
+two_more pair rest e h = rw e (omega (arith, length-append pair rest))
 
 pub decimal_at-next-requires : goal.decimal_at-next-requires
 decimal_at-next-requires c =
-    two_bytes_fit _ (omega (arith, c.type_inv.page c.loop-left.from, c.type_inv.page (c.loop-left.from + 1))) (simp length-set (omega (arith, c.loop-left.invariant.2.size)))
+    let l = c.loop-pair in
+    let s = c.in-Some.ensures.steps in
+    simp length-set (omega (
+      arith,
+      l.invariant.4.size,
+      two_more c.in-Some.pair.now (chunks_exact_rest c.next.new.self) s.1.0 (s.1.1 ∙ l.invariant.2),
+      digits_u16 c.from.result (omega arith),
+    ))
 
-pub loop-left-preserved : goal.loop-left-preserved
-loop-left-preserved c =
-    let l = c.loop-left in
-    let page = c.args.page.now in
-    -- the position that a turn reads, which two bytes give; the code's own number equals it, by arithmetic
-    let position = get_or page l.from 0 * 256 + get_or page (l.from + 1) 0 in
-    let small : position < 65536 = omega (arith, c.type_inv.page l.from, c.type_inv.page (l.from + 1)) in
-    let rest = spaced (positions_in (l.left - 1) (drop (l.from + 2) page)) in
-    let digits : Stored _ _ (decimal position) _ _ = stored_as c.decimal_at-next.ensures (omega arith) in (
+pub loop-pair-preserved : goal.loop-pair-preserved
+loop-pair-preserved c =
+    let l = c.loop-pair in
+    let s = c.in-Some.ensures.steps in
+    let pair = c.in-Some.pair.now in
+    let two : length pair ≡ 2 = s.1.1 ∙ l.invariant.2 in
+    let rest = chunks_exact_rest c.next.new.self in
+    let text = spaced (positions_in (length rest / 2) rest) in
+    let position = get_or pair 0 0 * 256 + get_or pair 1 0 in
+    let digits : Stored _ _ (decimal position) _ _ = stored_as c.decimal_at-next.ensures (c.from.ensures ∙ c.position_of.ensures) in (
       omega arith,
-      omega (arith, decimal-length 4 position (omega (arith, small)), digits.place),
-      writing_part (decimal position) rest
-          (writing_byte 32 (decimal position ++ rest) (rw (spaced-step page l.from l.left c.loop-left-test.true) at l.invariant.2))
+      tt,
+      s.0 ∙ l.invariant.2,
+      omega (arith, two_more pair rest s.1.0 two, digits_u16 position (omega arith), digits.place),
+      writing_part (decimal position) text
+          (writing_byte 32 (decimal position ++ text) (rw (spaced_pair pair rest s.1.0 two) at l.invariant.4))
           _ _ digits.bytes digits.place,
     )
 
-pub returns : goal.returns
-returns c =
-    let z : c.loop-left.left ≡ 0 = omega arith in
-    record { text = writing_stored (rw (z, spaced_none) at c.loop-left.invariant.2); short = omega arith }
+pub returns-clause-text : goal.returns-clause-text
+returns-clause-text c =
+    writing_stored (rw (spaced_none (chunks_exact_rest c.loop-pair.pair-iterator) (omega (arith, c.in-None.ensures.steps))) at c.loop-pair.invariant.4)
