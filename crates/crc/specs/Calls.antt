@@ -2,14 +2,9 @@
 use Rattle.std.specs.Prelude.{ℕ, List, [], ◌∷◌, length}
 use Rattle.std.specs.Int.Bits.{bit_xor}
 use Rattle.base.specs.Outcome.{Outcome, refused, accepted, Condition, when, judge}
-use Rattle.base.specs.Refusals.{number}
 use Rattle.poly.specs.Generators.{unfit}
 use Rattle.packet.specs.Packet.{polynomial, bytes_of, bits, unfit_length, unfit_values, remainder}
 use Rattle.packet.specs.declared.Crc.{Crc}
-use Rattle.crc.specs.declared.RemainderAnswer.{RemainderAnswer}
-use Rattle.crc.specs.declared.RemainderAnswer.TheVariants as RemainderAnswer-cases
-use Rattle.crc.specs.declared.SealAnswer.{SealAnswer}
-use Rattle.crc.specs.declared.SealAnswer.TheVariants as SealAnswer-cases
 
 -- the packet whose last n bits are set so that its remainder is 0; SealLaws has that it is the only one
 unfoldable pub sealed : Crc → List ℕ → List ℕ
@@ -23,16 +18,8 @@ packet_conditions c l =
     ∷ when 11 (unfit_values c.generator.degree c.init c.xorout)
     ∷ []
 
-abbrev pub remainder_answer : RemainderAnswer → Outcome ℕ
-remainder_answer (RemainderAnswer-cases.Remainder r) = accepted r
-remainder_answer (RemainderAnswer-cases.Refused r) = refused (number r)
-
 abbrev pub remainder_call : Crc → List ℕ → Outcome ℕ
 remainder_call c s = judge (packet_conditions c (bits s)) refused (accepted (remainder c s))
-
-abbrev pub seal_answer : SealAnswer → Outcome (Unit {0})
-seal_answer SealAnswer-cases.Sealed = accepted tt
-seal_answer (SealAnswer-cases.Refused r) = refused (number r)
 
 abbrev pub seal_call : Crc → List ℕ → Outcome (Unit {0})
 seal_call c s = judge (packet_conditions c (bits s)) refused (accepted tt)

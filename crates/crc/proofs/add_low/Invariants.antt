@@ -17,7 +17,3 @@ pub record Adding (q p : List ℕ) (value left i : ℕ) : Type 0 where
 abbrev pub invariant-loop-i : goal.invariant-loop-i
 invariant-loop-i l =
     Adding l.initial.packet l.packet l.value l.left l.i
-
-abbrev pub decreases-loop-i : goal.decreases-loop-i
-decreases-loop-i l =
-    l.i

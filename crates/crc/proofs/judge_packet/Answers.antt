@@ -3,4 +3,4 @@ use Rattle.poly.proofs.GeneratorLaws.{made_fit}
 use Rattle.crc.proofs.judge_packet.Goals as goal
 
 pub unfit_values-requires : goal.unfit_values-requires
-unfit_values-requires c = made_fit c.args.generator c.unfit_generator.ensures c.if-unfit_generator.false c.of-g.ensures
+unfit_values-requires c = made_fit c.args.numbers.generator c.unfit_generator.ensures c.if-unfit_generator.false c.of-g.ensures
