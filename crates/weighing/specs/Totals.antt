@@ -1,5 +1,6 @@
 -- What bits count in the plain total of a range, by which the second check of a packet with flipped bits is decided.
 use Rattle.std.specs.Prelude.{ℕ, ◌+◌, ◌-◌, ◌*◌, ◌/◌, ◌%◌, ◌^◌, ◌≤◌, ◌≡◌, ◌≢◌, List, [], ◌∷◌, eqb, length}
+use Rattle.std.specs.Borrow.{Bor}
 use Rattle.base.specs.Outcome.{pick}
 use Rattle.packet.specs.Packet.{Bytes, bit_at}
 use Rattle.checksum.specs.Checksum.{total, range, field_of}
@@ -39,11 +40,11 @@ pub record Totalled (a e t : ℕ) (s : List ℕ) : Type 0 where
 unfoldable pub in_field : Check → List ℕ → ℕ
 in_field k s = pick (eqb k.from k.to) 0 (field_of k.field s)
 
--- a check with what decides it, taken of one packet
-abbrev pub weighed : Check → List ℕ → Weighed
-weighed k s = record { check = k; total = total (range k.from k.to s); in_field = in_field k s }
+-- a packet and a check with what decides it
+abbrev pub weighed : Check → Bor (List ℕ) → Weighed
+weighed k packet = record { packet = packet; check = k; total = total (range k.from k.to packet.now); in_field = in_field k packet.now }
 
--- w is a check of the packet s, with the total of its range and, where there is a second check, that of its field
-pub record Weighs (w : Weighed) (s : List ℕ) : Type 0 where
-  pub summed : Totalled w.check.from w.check.to w.total s
-  pub field_totalled : w.check.from ≢ w.check.to → Totalled w.check.field (w.check.field + 2) w.in_field s
+-- w has the total of its check's range in its packet and, where there is a second check, that of its field
+pub record Weighs (w : Weighed) : Type 0 where
+  pub summed : Totalled w.check.from w.check.to w.total w.packet.now
+  pub field_totalled : w.check.from ≢ w.check.to → Totalled w.check.field (w.check.field + 2) w.in_field w.packet.now
