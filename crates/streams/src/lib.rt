@@ -16,6 +16,7 @@ pub fn read_full<R: Read>(input: &mut R, buffer: &mut [u8]) -> io::Result<usize>
     ensures err { OnErr result (ReadSome (R.remaining input.old) (R.remaining input.new) buffer.new) }
 {
     let mut done = 0;
+    // Each turn reads as many bytes as the stream gives, so no `for` counts the turns.
     while done < buffer.len() {
         let n = input.read(&mut buffer[done..])?;
         if n == 0 {
@@ -32,6 +33,7 @@ pub fn write_all<W: Write>(out: &mut W, bytes: &[u8]) -> io::Result<()>
     ensures err { OnErr result (WroteSome (W.contents out.old) (W.contents out.new) bytes.now) }
 {
     let mut done = 0;
+    // Each turn writes as many bytes as the stream takes, so no `for` counts the turns.
     while done < bytes.len() {
         let taken = out.write(&bytes[done..])?;
         if taken == 0 {
