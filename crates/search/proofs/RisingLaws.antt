@@ -153,8 +153,12 @@ module _ (power : ℕ → ℕ) (l n s : ℕ) where
       ∙ head_append (summing power s (choose l k zero)) (summing power s (rising l (suc k) m))
       ∙ ap (λ (h : Head). or_else h (head_of (summing power s (rising l (suc k) m)))) (sym (first_from_whole power l k s))
 
-  pub rise_none : (k : ℕ) → head_of (summing power s (rising l k zero)) ≡ headless
-  rise_none k = ap (λ (xs : List (List ℕ)). head_of (summing power s xs)) (rising_none l k) ∙ ap head_of (summing_nil power s) ∙ head_nil
+  -- past the last count
+  pub rise_none : (k : ℕ) → n < k → head_of (summing power s (rising l k (n + 1 - k))) ≡ headless
+  rise_none k h =
+      let e : n + 1 - k ≡ 0 = omega arith in
+      ap (λ (m : ℕ). head_of (summing power s (rising l k m))) e
+      ∙ ap (λ (xs : List (List ℕ)). head_of (summing power s xs)) (rising_none l k) ∙ ap head_of (summing_nil power s) ∙ head_nil
 
 -- one count tried, in a slice xs of n positions whose first k the level below was lent
 module _ (power : ℕ → ℕ) (l s n k : ℕ) (xs ys : List ℕ) (r : Bool) (room : k ≤ n) (whole : length xs ≡ n)

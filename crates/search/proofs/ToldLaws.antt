@@ -2,6 +2,7 @@
 use mathlib.Core.Path.{◌≡◌, sym, ap, ap₂, ◌∙◌}
 use mathlib.Core.Bool.{Bool, true, false}
 use mathlib.Core.List.{List, ◌++◌}
+use Rattle.std.proofs.Common.{Option, Some, None}
 use Prim.Native.Nat.{ℕ, suc, ◌+◌, ◌-◌, ◌≤◌}
 use native.Mathlib.Omega.{arith}
 use lib.ListN.{length, take, drop}
@@ -10,27 +11,25 @@ use Rattle.patterns.specs.Walk.{by_positions}
 use Rattle.patterns.specs.Listing.{sift}
 use Rattle.placing.specs.Placing.{summing, starts, head_of, first_after, answer}
 use Rattle.search.specs.Search.{walked, rising, found, CountWithin, Told}
-use Rattle.search.specs.declared.Found.{Found}
-use Rattle.search.specs.declared.Found.TheVariants.{At, Nothing}
 use Rattle.placing.proofs.HeadLaws.{or_else}
 use Rattle.search.proofs.RisingLaws.{head_none, first_starts, next_starts, walked-rising, after_rising}
 
 module _ (power : ℕ → ℕ) (l n s : ℕ) where
-  pub told_first : (r : Found) (pos : List ℕ) → CountWithin n r → found r pos ≡ head_of (summing power s (rising l 0 (n + 1 - 0)))
+  pub told_first : (r : Option ℕ) (pos : List ℕ) → CountWithin n r → found r pos ≡ head_of (summing power s (rising l 0 (n + 1 - 0)))
       → Told by_positions l n (walked power l n s) (walked power l n s) r pos
   told_first r pos b h = go r b (h ∙ ap (λ (m : ℕ). head_of (summing power s (rising l 0 m))) (counts n) ∙ sym (walked-rising power l n s))
     where
       counts : (n : ℕ) → n + 1 - 0 ≡ suc n
       counts n = omega arith
 
-      go : (r : Found) → CountWithin n r → found r pos ≡ head_of (walked power l n s) → Told by_positions l n (walked power l n s) (walked power l n s) r pos
-      go (At k) b h = (first_starts power l n s (take k pos) (sym h), b)
-      go Nothing b h = head_none (walked power l n s) (sym h)
+      go : (r : Option ℕ) → CountWithin n r → found r pos ≡ head_of (walked power l n s) → Told by_positions l n (walked power l n s) (walked power l n s) r pos
+      go (Some k) b h = (first_starts power l n s (take k pos) (sym h), b)
+      go None b h = head_none (walked power l n s) (sym h)
 
-  pub told_next : (p : List ℕ) (r : Found) (pos : List ℕ) → CountWithin n r → found r pos ≡ head_of (sift (by_positions p) (walked power l n s))
+  pub told_next : (p : List ℕ) (r : Option ℕ) (pos : List ℕ) → CountWithin n r → found r pos ≡ head_of (sift (by_positions p) (walked power l n s))
       → Told by_positions l n (walked power l n s) (sift (by_positions p) (walked power l n s)) r pos
-  told_next p (At k) pos b h = (next_starts power l n s p (take k pos) (sym h), b)
-  told_next p Nothing pos b h = head_none (sift (by_positions p) (walked power l n s)) (sym h)
+  told_next p (Some k) pos b h = (next_starts power l n s p (take k pos) (sym h), b)
+  told_next p None pos b h = head_none (sift (by_positions p) (walked power l n s)) (sym h)
 
   -- after the first k of xs: more of that count, or the first of the counts above it
   module _ (k : ℕ) (xs ys : List ℕ) (r : Bool) (whole : length xs ≡ n) (room : k ≤ n) (same : length ys ≡ length (take k xs))
@@ -43,12 +42,12 @@ module _ (power : ℕ → ℕ) (l n s : ℕ) where
         after_rising power l n s (take k xs) (n - k) (omega arith)
         ∙ ap₂ or_else (sym told) (ap₂ (λ (a b : ℕ). head_of (summing power s (rising l a b))) g f)
 
-    pub next_same : r ≡ true → Told by_positions l n (walked power l n s) (sift (by_positions (take k xs)) (walked power l n s)) (At k) (ys ++ drop k xs)
+    pub next_same : r ≡ true → Told by_positions l n (walked power l n s) (sift (by_positions (take k xs)) (walked power l n s)) (Some k) (ys ++ drop k xs)
     next_same e =
-        told_next (take k xs) (At k) (ys ++ drop k xs) room
+        told_next (take k xs) (Some k) (ys ++ drop k xs) room
         (ap starts (take_at ys (drop k xs) k (same ∙ length-take-le k xs (omega arith))) ∙ sym (ahead ∙ rw e))
 
-    pub next_above : r ≡ false → (q : Found) (pos zs : List ℕ) → length zs ≡ n → (above : ℕ) → above ≡ k + 1 → CountWithin (length zs) q
+    pub next_above : r ≡ false → (q : Option ℕ) (pos zs : List ℕ) → length zs ≡ n → (above : ℕ) → above ≡ k + 1 → CountWithin (length zs) q
         → found q pos ≡ head_of (summing power s (rising l above (length zs + 1 - above)))
         → Told by_positions l n (walked power l n s) (sift (by_positions (take k xs)) (walked power l n s)) q pos
     next_above e q pos zs w above f b h =

@@ -1,13 +1,12 @@
 -- What a search goes through and what it answers, over any powers: the sets of at most so many positions whose powers have a given
 -- sum, count by count, and the first of them.
-use Rattle.std.specs.Prelude.{ℕ, zero, suc, ◌%◌, ◌≤◌, ◌<◌, ◌≡◌, Bool, not, ◌&&◌, List, [], ◌∷◌, ◌++◌, eqb, length, get_or, take}
+use Rattle.std.specs.Prelude.{ℕ, zero, suc, ◌%◌, ◌≤◌, ◌<◌, ◌≡◌, Bool, not, ◌&&◌, List, [], ◌∷◌, ◌++◌, Option, Some, None, eqb, length, get_or, take}
 use Rattle.std.specs.Int.Count.{ones}
 use Rattle.base.specs.Lists.{Ascending}
 use Rattle.patterns.specs.Listing.{choose, up_to, sift}
 use Rattle.patterns.specs.Walk.{by_positions}
-use Rattle.placing.specs.Placing.{summing, Head, headless, starts, Lookup}
-use Rattle.search.specs.declared.Found.{Found}
-use Rattle.search.specs.declared.Found.TheVariants.{At, Nothing}
+use Rattle.placing.specs.Placing.{summing, Head, headless, starts, Describes}
+use Rattle.placing.specs.declared.Powers.{Powers}
 
 -- what a walk meets: the sets of at most so many positions below l whose powers have the sum s
 unfoldable pub walked : (ℕ → ℕ) → ℕ → ℕ → ℕ → List (List ℕ)
@@ -19,14 +18,14 @@ rising l k zero = []
 rising l k (suc m) = choose l k zero ++ rising l (suc k) m
 
 -- a count found, of the positions left behind
-abbrev pub found : Found → List ℕ → Head
-found (At k) pos = starts (take k pos)
-found Nothing pos = headless
+abbrev pub found : Option ℕ → List ℕ → Head
+found (Some k) pos = starts (take k pos)
+found None pos = headless
 
 -- a count found is at most so many
-abbrev pub CountWithin : ℕ → Found → Type 0
-CountWithin limit (At k) = k ≤ limit
-CountWithin limit Nothing = Unit {0}
+abbrev pub CountWithin : ℕ → Option ℕ → Type 0
+CountWithin limit (Some k) = k ≤ limit
+CountWithin limit None = Unit {0}
 
 -- what the generator's number of ones tells of the powers: if it is even, each of them has an odd number of ones
 abbrev pub OddOnes : ℕ → List ℕ → Type 0
@@ -43,17 +42,17 @@ pub record FoundFirst (R : List ℕ → List ℕ → Bool) (l : ℕ) (list ahead
   pub split : ahead ≡ p ∷ sift (R p) list
   pub ascends : Ascending l 0 p
 
-abbrev pub Told : (List ℕ → List ℕ → Bool) → ℕ → ℕ → List (List ℕ) → List (List ℕ) → Found → List ℕ → Type 0
-Told R l limit list ahead (At k) pos = FoundFirst R l list ahead (take k pos) × (k ≤ limit)
-Told R l limit list ahead Nothing pos = ahead ≡ []
+abbrev pub Told : (List ℕ → List ℕ → Bool) → ℕ → ℕ → List (List ℕ) → List (List ℕ) → Option ℕ → List ℕ → Type 0
+Told R l limit list ahead (Some k) pos = FoundFirst R l list ahead (take k pos) × (k ≤ limit)
+Told R l limit list ahead None pos = ahead ≡ []
 
 -- what the two searches tell, for whatever powers the tables describe: of the list, and of what follows p in it
-abbrev pub FirstTold : List ℕ → List ℕ → ℕ → ℕ → ℕ → Found → List ℕ → Type 0
-FirstTold pow first period s limit r pos =
-    (power : ℕ → ℕ) → Lookup power pow first period
-    → Told by_positions (length pow) limit (walked power (length pow) limit s) (walked power (length pow) limit s) r pos
+abbrev pub FirstTold : Powers → ℕ → ℕ → Option ℕ → List ℕ → Type 0
+FirstTold t s limit r pos =
+    (power : ℕ → ℕ) → Describes power t
+    → Told by_positions (length t.powers.now) limit (walked power (length t.powers.now) limit s) (walked power (length t.powers.now) limit s) r pos
 
-abbrev pub NextTold : List ℕ → List ℕ → ℕ → ℕ → ℕ → List ℕ → Found → List ℕ → Type 0
-NextTold pow first period s limit p r pos =
-    (power : ℕ → ℕ) → Lookup power pow first period
-    → Told by_positions (length pow) limit (walked power (length pow) limit s) (sift (by_positions p) (walked power (length pow) limit s)) r pos
+abbrev pub NextTold : Powers → ℕ → ℕ → List ℕ → Option ℕ → List ℕ → Type 0
+NextTold t s limit p r pos =
+    (power : ℕ → ℕ) → Describes power t
+    → Told by_positions (length t.powers.now) limit (walked power (length t.powers.now) limit s) (sift (by_positions p) (walked power (length t.powers.now) limit s)) r pos

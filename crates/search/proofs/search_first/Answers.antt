@@ -7,4 +7,4 @@ pub returns : goal.returns
 returns c power t =
     let s = c in
     let r = c.rise in
-    told_first power (length s.args.pow.now) (length s.args.pos.now) s.args.syndrome r.result r.new.pos r.ensures.counted (r.ensures.first power t)
+    told_first power (length s.args.powers.powers.now) (length s.args.pos.now) s.args.syndrome r.result r.new.pos r.ensures.counted (r.ensures.first power t)

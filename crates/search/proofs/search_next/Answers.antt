@@ -11,7 +11,7 @@ pub returns-then-resume_or_skip : goal.returns-then-resume_or_skip
 returns-then-resume_or_skip c power t =
     let s = c in
     let r = c.resume_or_skip in
-    next_same power (length s.args.pow.now) (length s.args.pos.now) s.args.syndrome s.args.count s.args.pos.now r.new.pos r.result refl s.requires.1 r.auto.pos (r.ensures power t) c.if-resume_or_skip.true
+    next_same power (length s.args.powers.powers.now) (length s.args.pos.now) s.args.syndrome s.args.count s.args.pos.now r.new.pos r.result refl s.requires.1 r.auto.pos (r.ensures power t) c.if-resume_or_skip.true
 
 pub returns : goal.returns
 returns c power t =
@@ -19,7 +19,7 @@ returns c power t =
     let r = c.resume_or_skip in
     let q = c.rise in
     let ys = r.new.pos in
-    next_above power (length s.args.pow.now) (length s.args.pos.now) s.args.syndrome s.args.count s.args.pos.now ys r.result refl s.requires.1 r.auto.pos (r.ensures power t)
+    next_above power (length s.args.powers.powers.now) (length s.args.pos.now) s.args.syndrome s.args.count s.args.pos.now ys r.result refl s.requires.1 r.auto.pos (r.ensures power t)
     c.if-resume_or_skip.false
     q.result
     q.new.pos
