@@ -1,7 +1,6 @@
 -- The packet maker: the packet that it makes, what the call answers, and what the lent packet then holds.
 use Rattle.std.specs.Prelude.{ℕ, List, [], ◌∷◌, length}
 use Rattle.base.specs.Outcome.{Outcome, refused, accepted, Condition, when, judge}
-use Rattle.base.specs.Refusals.{number}
 use Rattle.poly.specs.Generators.{unfit}
 use Rattle.packet.specs.Packet.{bits, unfit_length, unfit_values}
 use Rattle.packet.specs.declared.Crc.{Crc}
@@ -9,8 +8,6 @@ use Rattle.crc.specs.Calls.{sealed}
 use Rattle.checksum.specs.Checksum.{unfit_range, unfit_field, stamped}
 use Rattle.checksum.specs.declared.Check.{Check}
 use Rattle.maker.specs.Stream.{yielded, state_after}
-use Rattle.maker.specs.declared.MakeAnswer.{MakeAnswer}
-use Rattle.maker.specs.declared.MakeAnswer.TheVariants.{Made, Refused}
 
 -- the packet of so many bytes that is made from a seed: bytes of the stream, stamped and then sealed
 unfoldable pub made : Crc → ℕ → Check → ℕ → List ℕ
@@ -27,10 +24,6 @@ make_conditions c l k =
     ∷ []
 
 -- an answer that is no refusal holds the final state
-abbrev pub make_answer : MakeAnswer → Outcome ℕ
-make_answer (Made x) = accepted x
-make_answer (Refused r) = refused (number r)
-
 abbrev pub make_call : Crc → ℕ → Check → List ℕ → Outcome ℕ
 make_call c seed k s = judge (make_conditions c (bits s) k) refused (accepted (state_after (length s) seed))
 
