@@ -80,6 +80,12 @@ ReadyFor t lo u = Ready t.powers.now t.firsts.now t.period lo u
 abbrev pub Describes : (ℕ → ℕ) → Powers → Type 0
 Describes power t = Lookup power t.powers.now t.firsts.now t.period
 
+-- r is t with the powers below `end` alone: what a search asks of t, and what describes t, serves r too
+pub record Below (t : Powers) (end : ℕ) (r : Powers) : Type 0 where
+  pub ends : length r.powers.now ≡ end
+  pub ready : (lo u : ℕ) → lo ≤ end → ReadyFor t lo u → ReadyFor r lo u
+  pub known : (power : ℕ → ℕ) → Describes power t → Describes power r
+
 -- what looking for the nearest position below l answers, for whatever powers the tables describe: its place, or nothing
 abbrev pub NearestFound : Powers → ℕ → ℕ → ℕ → Option ℕ → Type 0
 NearestFound t l lo u (Some p) = (p < l) × ((power : ℕ → ℕ) → Describes power t → Nearest power l lo u p)

@@ -5,6 +5,7 @@
 ghost use Rattle.std.specs.Prelude.{◌≡◌, ◌≤◌, length};
 ghost use Rattle.base.specs.Lists.{Ascending};
 ghost use Rattle.placing.specs.Placing.{
+  Below,
   Resumed,
   NearestFound,
   Placed,
@@ -20,6 +21,17 @@ pub struct Powers<'a> {
 }
 
 impl<'a> Powers<'a> {
+    // The same tables with the powers below `end` alone.
+    pub fn below(self, end: usize) -> Powers<'a>
+        requires { end ≤ length self.powers.now }
+        ensures { Below self.entry end result }
+    {
+        Powers {
+            powers: &self.powers[..end],
+            ..self
+        }
+    }
+
     // The least position at or past `lo` and below `end` whose power is `u`, by the first one and the period. The first test asks
     // whether the first position is at or past `lo` and below `end`, both at once: nearly every trial fails it, and a second test
     // would be a gamble. The second test is about the length of the powers, and not about `end`, so that a loop in which `end`

@@ -2,19 +2,19 @@
 use mathlib.Core.Path.{◌≡◌, refl, sym, ap, ap₂, ◌∙◌}
 use mathlib.Core.Bool.{Bool, true, false, true≢false}
 use mathlib.Core.List.{List, [], ◌∷◌}
-use Prim.Native.Nat.{ℕ, suc, ◌+◌, ◌-◌, ◌<◌, ◌≤◌}
+use Rattle.std.proofs.Common.{Option}
+use Prim.Native.Nat.{ℕ, suc, ◌+◌, ◌<◌, ◌≤◌}
 use native.Mathlib.Omega.{arith}
 use lib.Bits.{bit_xor}
-use lib.Dec.{ltb}
 use lib.ListN.{length, get_or, set}
 use Rattle.base.specs.Lists.{Ascending, ends, next}
 use Rattle.base.proofs.Cases.{by_order}
 use Rattle.base.proofs.ListLaws.{ascending_from}
 use Rattle.patterns.specs.Order.{lower, before}
 use Rattle.patterns.proofs.OrderLaws.{lower_more}
-use Rattle.placing.specs.Placing.{Head, first_from, first_after, answer, Nearest}
+use Rattle.placing.specs.Placing.{Head, first_from, first_after, answer}
 use Rattle.placing.proofs.HeadLaws.{or_else, onto, first_after_empty, first_after_cons}
-use Rattle.placing.proofs.NearestLaws.{nearest_first}
+use Rattle.placing.proofs.NearestLaws.{NearestIn, alone, first_alone}
 use Rattle.spans.specs.Spans.{Finds, Summing, framed, Between, Behind}
 use Rattle.spans.proofs.FindLaws.{finds_same, after_finds}
 use Rattle.spans.proofs.FrameLaws.{Framed, framed-before}
@@ -70,14 +70,12 @@ module _ (power : ℕ → ℕ) (u : ℕ) {l k : ℕ} {q : List ℕ} {a b : ℕ} 
   between_finds = framed_after r ys inner_finds
 
 -- one position between the ends: the nearest past it
-pub one_after : (power : ℕ → ℕ) (l v m c : ℕ) → m < l → {from : ℕ} → from ≡ m + 1 → Nearest power l from v c
-    → (r : Bool) → ltb c l ≡ r → answer r (c ∷ []) ≡ first_after power l (m ∷ []) v
-one_after power l v m c h e near r is =
+pub one_after : (power : ℕ → ℕ) (l v m : ℕ) → m < l → {from : ℕ} → from ≡ m + 1 → (r : Option ℕ) → NearestIn power l from v r → alone r ≡ first_after power l (m ∷ []) v
+one_after power l v m h e r near =
     sym
     (first_after_cons power l m [] v (next {from = 0} {p = m} (omega arith) h ends)
     ∙ ap (λ (x : Head). or_else (onto m x) (first_from power l 1 (m + 1) v)) (first_after_empty power l (bit_xor v (power m)) [] refl)
-    ∙ nearest_first power l v c (l - (m + 1)) (m + 1) (omega arith) (rw e at near)
-    ∙ ap (λ (x : Bool). answer x (c ∷ [])) is)
+    ∙ first_alone power l (m + 1) v (omega arith) r (rw e at near))
 
 pub three_ascend : {l : ℕ} {q : List ℕ} → Ascending l 0 q → length q ≡ 3 → (get_or q 0 0 < get_or q 1 0) × (get_or q 1 0 < get_or q 2 0) × (get_or q 2 0 < l)
 three_ascend ends h = absurd (omega arith)

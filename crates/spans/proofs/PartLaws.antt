@@ -1,12 +1,12 @@
 -- A search between the ends of a set: for what is left of the sum, over the powers below the larger end; and the set written round what
 -- that search left.
-use mathlib.Core.Path.{◌≡◌, refl, ap, ap₂, ◌∙◌}
+use mathlib.Core.Path.{◌≡◌, refl, ap, ap₂}
 use mathlib.Core.List.{List, [], ◌∷◌}
 use Prim.Native.Nat.{ℕ, suc, ◌+◌, ◌-◌, ◌<◌, ◌≤◌}
 use native.Mathlib.Omega.{arith}
 use lib.Bits.{bit_xor, xor_lt}
-use lib.ListN.{length, get_or, take, set, drop_of_length-le}
-use lib.Seq.{length-take-le, get_or-take, drop-cons, set_at}
+use lib.ListN.{length, get_or, set, drop_of_length-le}
+use lib.Seq.{drop-cons, set_at}
 use borrow.Rule.Slice.PartMut.{put_mid}
 use Rattle.placing.specs.Placing.{Lookup, Ready}
 use Rattle.spans.specs.Spans.{framed}
@@ -26,24 +26,6 @@ ready_left {pow} {u = u} r a b h k f =
 pub left_known : {power : ℕ → ℕ} {pow first : List ℕ} {period : ℕ} → Lookup power pow first period → (u a b : ℕ) → a < length pow → b < length pow
     → bit_xor u (bit_xor (get_or pow a 0) (get_or pow b 0)) ≡ bit_xor u (bit_xor (power a) (power b))
 left_known t u a b h k = ap₂ (λ (x y : ℕ). bit_xor u (bit_xor x y)) (t.known a h) (t.known b k)
-
--- a search below the place b
-pub ready_front : {pow first : List ℕ} {period from v : ℕ} → Ready pow first period from v → (b : ℕ) → b ≤ length pow → from ≤ b → Ready (take b pow) first period from v
-ready_front {pow} r b h k =
-    let e = length-take-le b pow h in
-    record {
-      n = r.n;
-      shape = record { short = omega (arith, r.shape.short); inside = λ p i. rw (get_or-take b pow p 0 (omega arith)) (r.shape.inside p (omega arith)) };
-      index = r.index;
-      start = omega arith;
-      sum = r.sum;
-    }
-
-pub lookup_front : {power : ℕ → ℕ} {pow first : List ℕ} {period : ℕ} → Lookup power pow first period → (b : ℕ) → b ≤ length pow
-    → Lookup power (take b pow) first period
-lookup_front {pow = pow} t b h =
-    let e = length-take-le b pow h in
-    record { known = λ p i. get_or-take b pow p 0 (omega arith) ∙ t.known p (omega arith); firsts = t.firsts }
 
 -- the ends written round the middle
 pub part_framed : (xs ys : List ℕ) (n a b : ℕ) → length xs ≡ n → length ys + 2 ≡ n

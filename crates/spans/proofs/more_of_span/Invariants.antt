@@ -2,15 +2,16 @@
 use mathlib.Core.Path.{◌≡◌}
 use mathlib.Core.Bool.{Bool}
 use mathlib.Core.List.{List}
-use Prim.Native.Nat.{ℕ, ◌-◌}
 use lib.ListN.{length}
+use Prim.Native.Nat.{ℕ, ◌-◌}
 use Rattle.patterns.specs.Order.{before}
-use Rattle.placing.specs.Placing.{Lookup}
+use Rattle.placing.specs.Placing.{Describes}
 use Rattle.spans.specs.Spans.{Finds, OfSpan}
 use Rattle.spans.proofs.more_of_span.Given as goal
 
 abbrev pub invariant-loop-a : goal.invariant-loop-a
 invariant-loop-a l =
     (length l.pos ≡ length l.initial.pos) × (l.n ≡ length l.initial.pos)
-    × ((power : ℕ → ℕ) → Lookup power l.pow l.first l.period → (r : Bool) (x : List ℕ)
-    → Finds before (OfSpan power (length l.pow) (length l.initial.pos - 2) l.u l.span l.a) r x → Finds before (OfSpan power (length l.pow) (length l.initial.pos - 2) l.u l.span l.from) r x)
+    × ((power : ℕ → ℕ) → Describes power l.powers → (r : Bool) (x : List ℕ)
+    → Finds before (OfSpan power (length l.powers.powers.now) (length l.initial.pos - 2) l.u l.span l.a) r x
+    → Finds before (OfSpan power (length l.powers.powers.now) (length l.initial.pos - 2) l.u l.span l.from) r x)

@@ -2,14 +2,15 @@
 use mathlib.Core.Path.{◌≡◌}
 use mathlib.Core.Bool.{Bool}
 use mathlib.Core.List.{List}
-use Prim.Native.Nat.{ℕ, ◌<◌}
-use lib.ListN.{length, get_or}
+use lib.ListN.{length}
+use Prim.Native.Nat.{ℕ}
 use Rattle.patterns.specs.Order.{before}
+use Rattle.placing.specs.Placing.{Describes}
 use Rattle.spans.specs.Spans.{Finds, OfSpan}
 use Rattle.spans.proofs.two_of_span.Given as goal
 
 abbrev pub invariant-loop-a : goal.invariant-loop-a
 invariant-loop-a l =
     (length l.pos ≡ 2)
-    × ((power : ℕ → ℕ) → ((p : ℕ) → p < length l.pow → get_or l.pow p 0 ≡ power p) → (r : Bool) (x : List ℕ)
-    → Finds before (OfSpan power (length l.pow) 0 l.u l.span l.a) r x → Finds before (OfSpan power (length l.pow) 0 l.u l.span l.from) r x)
+    × ((power : ℕ → ℕ) → Describes power l.powers → (r : Bool) (x : List ℕ)
+    → Finds before (OfSpan power (length l.powers.powers.now) 0 l.u l.span l.a) r x → Finds before (OfSpan power (length l.powers.powers.now) 0 l.u l.span l.from) r x)
