@@ -2,10 +2,10 @@
 -- them, followed by the bytes done, is the whole sum. i falls.
 use mathlib.Core.Path.{◌≡◌, refl, sym, ap, ap₂, ◌∙◌}
 use mathlib.Core.List.{List, ◌++◌, append-nil}
-use Prim.Native.Nat.{ℕ, suc, ◌-◌, ◌%◌}
+use Prim.Native.Nat.{ℕ, suc, ◌-◌, ◌%◌, ◌≤◌}
 use native.Mathlib.Omega.{arith}
 use lib.Bits.{bit_xor, xor_zero_r}
-use lib.ListN.{length, take, drop, get_or, length-set, take-append-drop}
+use lib.ListN.{length, take, drop, get_or, take-append-drop}
 use lib.Seq.{take-length, drop-length, take-set-le, take-take}
 use Rattle.packet.specs.Packet.{Bytes, polynomial, bytes_of}
 use Rattle.packet.proofs.PacketLaws.{bytes_take}
@@ -14,10 +14,10 @@ use Rattle.crc.proofs.add_low.Invariants.{Adding}
 use Rattle.crc.proofs.add_low.Goals as goal
 
 -- nothing left to add: the bytes stand
-added : {q p : List ℕ} {value i : ℕ} → Bytes q → Adding q p value 0 i → p ≡ bytes_of (length q) (bit_xor (polynomial q) value)
-added {q} {p} {value} {i} b a =
+added : {q p : List ℕ} {value i : ℕ} → Bytes q → i ≤ length q → Adding q p value 0 i → p ≡ bytes_of (length q) (bit_xor (polynomial q) value)
+added {q} {p} {value} {i} b within a =
     sym (take-append-drop i p)
-    ∙ ap (λ (t : List ℕ). t ++ drop i p) (a.kept ∙ sym (ap (bytes_of i) (xor_zero_r (polynomial (take i q))) ∙ bytes_take q b i a.within))
+    ∙ ap (λ (t : List ℕ). t ++ drop i p) (a.kept ∙ sym (ap (bytes_of i) (xor_zero_r (polynomial (take i q))) ∙ bytes_take q b i within))
     ∙ a.sum
 
 -- no byte left: the bytes stand
@@ -29,8 +29,6 @@ pub loop-i-init : goal.loop-i-init
 loop-i-init c =
     let q = c.args.packet.now in
     record {
-      within = omega arith;
-      long = refl;
       kept = refl;
       sum =
           ap₂ (λ (s t : List ℕ). bytes_of (length q) (bit_xor (polynomial s) c.args.value) ++ t) (take-length q) (drop-length q)
@@ -38,26 +36,23 @@ loop-i-init c =
     }
 
 pub returns-then-left-eq0 : goal.returns-then-left-eq0
-returns-then-left-eq0 c = added c.requires (rw c.if-left-eq0.true at c.loop-i.invariant)
+returns-then-left-eq0 c = added c.requires (omega arith) (rw c.if-left-eq0.true at c.loop-i.invariant)
 
 pub loop-i-preserved : goal.loop-i-preserved
 loop-i-preserved c =
-    let s = c in
-    let q = s.args.packet.now in
-    let p = s.loop-i.packet in
-    let i : ℕ = s.loop-i.i - 1 in
-    let e : suc i ≡ s.loop-i.i = omega arith in
-    let a = s.loop-i.invariant in
-    let x : ℕ = bit_xor (get_or p i 0) (s.loop-i.left % 256) in
+    let q = c.args.packet.now in
+    let p = c.loop-i.packet in
+    let i : ℕ = c.loop-i.i - 1 in
+    let e : suc i ≡ c.loop-i.i = omega arith in
+    let a = c.loop-i.invariant in
+    let x : ℕ = bit_xor (get_or p i 0) (c.loop-i.left % 256) in
     let kept : take (suc i) p ≡ take (suc i) q = rw e a.kept in
     record {
-      within = omega arith;
-      long = length-set p i x ∙ a.long;
       kept =
           take-set-le i p i x (omega arith)
           ∙ sym (take-take i (suc i) p (omega arith)) ∙ ap (take i) kept ∙ take-take i (suc i) q (omega arith);
       sum =
-          add_low_step q p i s.loop-i.left s.requires (omega arith) a.long kept
+          add_low_step q p i c.loop-i.left c.requires (omega arith) (omega arith) kept
           ∙ rw e a.sum;
     }
 

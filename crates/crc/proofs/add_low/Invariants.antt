@@ -2,15 +2,13 @@
 -- them, followed by the bytes done, is the whole sum. i falls.
 use mathlib.Core.Path.{◌≡◌}
 use mathlib.Core.List.{List, ◌++◌}
-use Prim.Native.Nat.{ℕ, ◌≤◌}
+use Prim.Native.Nat.{ℕ}
 use lib.Bits.{bit_xor}
 use lib.ListN.{length, take, drop}
 use Rattle.packet.specs.Packet.{polynomial, bytes_of}
 use Rattle.crc.proofs.add_low.Given as goal
 
 pub record Adding (q p : List ℕ) (value left i : ℕ) : Type 0 where
-  pub within : i ≤ length q
-  pub long : length p ≡ length q
   pub kept : take i p ≡ take i q
   pub sum : bytes_of i (bit_xor (polynomial (take i q)) left) ++ drop i p ≡ bytes_of (length q) (bit_xor (polynomial q) value)
 

@@ -6,7 +6,4 @@ use Rattle.crc.proofs.fill_crc.Goals as goal
 
 pub returns : goal.returns
 returns c =
-    let add = c in
-    let left = add in
-    let a = left.args in
-    sealed_by a.crc a.packet.now add.add_low.ensures (omega (arith, left.remainder_of-r.ensures, xor_zero_r left.remainder_of-r.result))
+    sealed_by c.args.crc c.args.packet.now c.add_low.ensures (omega (arith, c.remainder_of-r.ensures, xor_zero_r c.remainder_of-r.result))
