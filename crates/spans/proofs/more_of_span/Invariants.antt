@@ -1,17 +1,9 @@
 -- `more_of_span` finds the first set of one span. The loop's invariant: what is first from `a` on is first from `from` on.
-use mathlib.Core.Path.{◌≡◌}
 use mathlib.Core.Bool.{Bool}
 use mathlib.Core.List.{List}
-use lib.ListN.{length}
 use Prim.Native.Nat.{ℕ, ◌-◌}
-use Rattle.patterns.specs.Order.{before}
-use Rattle.placing.specs.Placing.{Describes}
-use Rattle.spans.specs.Spans.{Finds, OfSpan}
+use Rattle.spans.specs.Spans.{FirstOfSpan}
 use Rattle.spans.proofs.more_of_span.Given as goal
 
 abbrev pub invariant-loop-a : goal.invariant-loop-a
-invariant-loop-a l =
-    (length l.pos ≡ length l.initial.pos) × (l.n ≡ length l.initial.pos)
-    × ((power : ℕ → ℕ) → Describes power l.powers → (r : Bool) (x : List ℕ)
-    → Finds before (OfSpan power (length l.powers.powers.now) (length l.initial.pos - 2) l.u l.span l.a) r x
-    → Finds before (OfSpan power (length l.powers.powers.now) (length l.initial.pos - 2) l.u l.span l.from) r x)
+invariant-loop-a l = (r : Bool) (x : List ℕ) → FirstOfSpan l.powers (l.n - 2) l.u l.span l.a r x → FirstOfSpan l.powers (l.n - 2) l.u l.span l.from r x

@@ -10,30 +10,29 @@ use Rattle.spans.proofs.SpanLaws.{span_past}
 use Rattle.spans.proofs.three_of_span.Goals as goal
 
 pub returns-in-Some : goal.returns-in-Some
-returns-in-Some c power t =
+returns-in-Some c =
     let i = c.loop-b in
     let near = c.in-Some.ensures in
     let d = c.args.span in
     let a : ℕ = i.b - d in
-    rw (set_three i.pos a c.in-Some.c i.b i.invariant.0)
-    (i.invariant.1 power t true _
-    (three_hit power (length c.args.powers.powers.now) c.args.u a i.b d (omega arith) c.requires.2 _ _ (omega arith) (c.left-v.ensures.known power t)
+    rw (set_three i.pos a c.in-Some.c i.b (omega arith))
+    (i.invariant true _
+    (λ power t.
+    three_hit power (length c.args.powers.powers.now) c.args.u a i.b d (omega arith) c.requires.2 _ _ (omega arith) (c.left-v.ensures.known power t)
     c.in-Some.c (near.0, near.1 power t) (omega arith)))
 
 pub loop-b-preserved : goal.loop-b-preserved
-loop-b-preserved c =
+loop-b-preserved c r x f =
     let i = c.loop-b in
     let d = c.args.span in
     let a : ℕ = i.b - d in
-    let e : i.b + 1 - d ≡ i.b - d + 1 = omega arith in (
-      i.invariant.0,
-      λ power t r x f.
-          i.invariant.1 power t r x
-          (three_miss power (length c.args.powers.powers.now) c.args.u a i.b d (omega arith) c.requires.2 _ _ (omega arith) (c.left-v.ensures.known power t)
-          (c.in_default.ensures power t) r x (rw e at f)),
-    )
+    let e : i.b + 1 - d ≡ i.b - d + 1 = omega arith in
+    i.invariant r x
+    (λ power t.
+    three_miss power (length c.args.powers.powers.now) c.args.u a i.b d (omega arith) c.requires.2 _ _ (omega arith) (c.left-v.ensures.known power t)
+    (c.in_default.ensures power t) r x (rw e at (f power t)))
 
 pub returns : goal.returns
-returns c power t =
+returns c =
     let i = c.loop-b in
-    i.invariant.1 power t false i.pos (span_past power 1 c.args.u (length c.args.powers.powers.now) c.args.span (i.b - c.args.span) (omega arith))
+    i.invariant false i.pos (λ power t. span_past power 1 c.args.u (length c.args.powers.powers.now) c.args.span (i.b - c.args.span) (omega arith))

@@ -10,24 +10,23 @@ use Rattle.spans.proofs.SpanLaws.{span_past}
 use Rattle.spans.proofs.two_of_span.Goals as goal
 
 pub returns-then-left-eq0 : goal.returns-then-left-eq0
-returns-then-left-eq0 c power t =
+returns-then-left-eq0 c =
     let i = c.loop-a in
     let d = c.args.span in
-    rw (set_two i.pos i.a (i.a + d) i.invariant.0)
-    (i.invariant.1 power t true _
-    (two_hit power (length c.args.powers.powers.now) c.args.u i.a (i.a + d) d refl c.requires.2 c.left.result (c.left.ensures.known power t) c.if-left-eq0.true (omega arith)))
+    rw (set_two i.pos i.a (i.a + d) (omega arith))
+    (i.invariant true _
+    (λ power t.
+    two_hit power (length c.args.powers.powers.now) c.args.u i.a (i.a + d) d refl c.requires.2 c.left.result (c.left.ensures.known power t) c.if-left-eq0.true (omega arith)))
 
 pub loop-a-preserved : goal.loop-a-preserved
-loop-a-preserved c =
+loop-a-preserved c r x f =
     let i = c.loop-a in
-    let d = c.args.span in (
-      i.invariant.0,
-      λ power t r x f.
-          i.invariant.1 power t r x
-          (two_miss power (length c.args.powers.powers.now) c.args.u i.a (i.a + d) d refl c.requires.2 c.left.result (c.left.ensures.known power t) c.if-left-eq0.false r x f),
-    )
+    let d = c.args.span in
+    i.invariant r x
+    (λ power t.
+    two_miss power (length c.args.powers.powers.now) c.args.u i.a (i.a + d) d refl c.requires.2 c.left.result (c.left.ensures.known power t) c.if-left-eq0.false r x (f power t))
 
 pub returns : goal.returns
-returns c power t =
-    c.loop-a.invariant.1 power t false c.loop-a.pos
-    (span_past power 0 c.args.u (length c.args.powers.powers.now) c.args.span c.loop-a.a (omega arith))
+returns c =
+    let i = c.loop-a in
+    i.invariant false i.pos (λ power t. span_past power 0 c.args.u (length c.args.powers.powers.now) c.args.span i.a (omega arith))
