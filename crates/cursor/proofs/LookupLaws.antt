@@ -1,6 +1,7 @@
 -- The tables of a generator serve the search: its powers are those of x, and what it meets is the walk.
 use mathlib.Core.Path.{◌≡◌, sym, ap, subst, ◌∙◌}
 use mathlib.Core.List.{List, [], ◌∷◌}
+use Rattle.std.proofs.Common.{Option}
 use Prim.Native.Nat.{ℕ, ◌%◌, ◌^◌, ◌<◌, ◌≤◌}
 use native.Mathlib.Omega.{arith}
 use native.Mathlib.Nat.{zero-add}
@@ -23,8 +24,8 @@ use Rattle.patterns.specs.Walk.{by_positions, walk}
 use Rattle.patterns.proofs.SiftLaws.{sift-same}
 use Rattle.placing.specs.Placing.{xor_all, summing}
 use Rattle.search.specs.Search.{walked, Told, OddOnes}
-use Rattle.search.specs.declared.Found.{Found}
-use Rattle.cursor.specs.Cursors.{Serves, Prepared}
+use Rattle.placing.specs.declared.Powers.{Powers}
+use Rattle.cursor.specs.Cursors.{Serves, ServedBy, Prepared}
 use Rattle.cursor.specs.declared.Cursor.{Cursor}
 
 -- the syndrome of a set of positions is the sum of their powers
@@ -40,14 +41,14 @@ walk-walked n g d l limit s =
     (λ ps h. ap (λ (x : ℕ). eqb x s) (syndrome-sum n g d ps))
 
 -- a search over the powers of the generator tells of the walk
-pub told_walk : (n g : ℕ) → Divisor n g → (l limit s : ℕ) (ahead : List (List ℕ) → List (List ℕ)) (r : Found) (pos : List ℕ)
+pub told_walk : (n g : ℕ) → Divisor n g → (l limit s : ℕ) (ahead : List (List ℕ) → List (List ℕ)) (r : Option ℕ) (pos : List ℕ)
     → Told by_positions l limit (walked (power n g) l limit s) (ahead (walked (power n g) l limit s)) r pos
     → Told by_positions l limit (walk n g l limit s) (ahead (walk n g l limit s)) r pos
 told_walk n g d l limit s ahead r pos h =
     subst (λ (xs : List (List ℕ)). Told by_positions l limit xs (ahead xs) r pos) (sym (walk-walked n g d l limit s)) h
 
 -- with a generator that has an even number of ones, every power has an odd number of them
-pub odd_ones : {c : Cursor} {pow first : List ℕ} → Prepared c pow first → OddOnes c.generator.coefficients pow
+pub odd_ones : {c : Cursor} → Prepared c → OddOnes c.generator.coefficients c.powers.powers.now
 unfolding power
 odd_ones {c} h even p k =
     let d = h.fit.divisor in
@@ -71,31 +72,32 @@ module _ {g : Generator} {l k : ℕ} {pow firsts : List ℕ} (h : Serves g l pow
   entry : (t : ℕ) → t < 2 ^ g.degree → get_or firsts t 0 ≡ first g.degree g.coefficients t
   entry t j = ap (λ (xs : List ℕ). get_or xs t 0) h.right_firsts ∙ get_or_first_table g.degree g.coefficients t j
 
-  pub prepared : (s : ℕ) → s < 2 ^ g.degree → Prepared (record { generator = g; period = k; syndrome = s }) pow firsts
-  prepared s within =
-      let n : ℕ = g.degree in
-      let b : ℕ = g.coefficients in
-      let d = h.fit.divisor in
-      let one : 1 ≤ n = omega (arith, h.fit.least) in
-      record {
-        fit = h.fit;
-        ready =
-            record {
-              n = n;
-              shape = record { short = omega (arith, as_long, h.short); inside = λ p j. rw (known p j) (power_lt n b d p) };
-              index = record { full = full; positive = rw h.turns (period_positive n b d one) };
-              start = omega arith;
-              sum = within;
-            };
-        lookup =
-            record {
-              known = known;
-              firsts =
-                  record {
-                    hit = λ t j e. rw (entry t (omega (arith, full))) (first_hit n b d one t (omega (arith, full)) (rw (entry t (omega (arith, full))) at e));
-                    least = λ p. rw (entry (power n b p) (power_lt n b d p)) (first-least n b d one p);
-                    again = rw h.turns (power_again n b d one);
-                    only = rw h.turns (power_only n b d one);
-                  };
-            };
-      }
+-- so the powers that are lent serve a cursor
+pub prepared : {g : Generator} {l : ℕ} (t : Powers) → ServedBy g l t → (s : ℕ) → s < 2 ^ g.degree → Prepared (record { generator = g; powers = t; syndrome = s })
+prepared {g} t h s within =
+    let n : ℕ = g.degree in
+    let b : ℕ = g.coefficients in
+    let d = h.fit.divisor in
+    let one : 1 ≤ n = omega (arith, h.fit.least) in
+    record {
+      fit = h.fit;
+      ready =
+          record {
+            n = n;
+            shape = record { short = omega (arith, as_long h, h.short); inside = λ p j. rw (known h p j) (power_lt n b d p) };
+            index = record { full = full h; positive = rw h.turns (period_positive n b d one) };
+            start = omega arith;
+            sum = within;
+          };
+      lookup =
+          record {
+            known = known h;
+            firsts =
+                record {
+                  hit = λ s j e. rw (entry h s (omega (arith, full h))) (first_hit n b d one s (omega (arith, full h)) (rw (entry h s (omega (arith, full h))) at e));
+                  least = λ p. rw (entry h (power n b p) (power_lt n b d p)) (first-least n b d one p);
+                  again = rw h.turns (power_again n b d one);
+                  only = rw h.turns (power_only n b d one);
+                };
+          };
+    }

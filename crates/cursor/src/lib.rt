@@ -6,59 +6,59 @@
 ghost use Rattle.std.specs.Prelude.{◌≡◌, ◌≤◌, length, take};
 ghost use Rattle.poly.specs.Fit.{Fit};
 ghost use Rattle.tables.specs.Tables.{power, values};
-ghost use Rattle.patterns.specs.Listing.{sift};
-ghost use Rattle.patterns.specs.Walk.{by_positions};
-ghost use Rattle.search.specs.Search.{Told};
-ghost use Rattle.cursor.specs.Cursors.{RightTables, Serves, Prepared, InFront, walked_by};
+ghost use Rattle.cursor.specs.Cursors.{FirstMet, InFront, NextMet, Prepared, RightTables, ServedBy};
 
+use placing::Powers;
 use poly::Generator;
-use search::Found;
+use tables::Tables;
 
-// What the sets of a syndrome are sought by, beside the powers of x and the first positions.
+// What the sets of a syndrome are sought by.
 #[derive(Clone, Copy)]
-pub struct Cursor {
+pub struct Cursor<'a> {
     pub generator: Generator,
-    pub period: u64,
+    pub powers: Powers<'a>,
     pub syndrome: u64,
 }
 
 // The powers of x below the slice's length, by their remainders.
-fn powers(g: Generator, pow: &mut [u32])
+fn fill_powers(g: Generator, room: &mut [u32])
     requires { Fit g }
-    ensures { pow.new ≡ values (power g.degree g.coefficients) (length pow.old) 0 }
+    ensures { room.new ≡ values (power g.degree g.coefficients) (length room.old) 0 }
 {
     let mut t: u64 = 1;
-    let mut i: usize = 0;
-    while i < pow.len() {
-        pow[i] = t as u32;
+    for power in room.iter_mut() {
+        *power = t as u32;
         t = poly::times_x(g, t);
-        i += 1;
     }
 }
 
-// Fills in a power for each of `bits` bits, and answers the period, from tables that are right.
-pub fn prepare(g: Generator, bits: usize, steps: &[u16], firsts: &[u16], pow: &mut [u32]) -> u64
-    requires { RightTables g steps.now firsts.now × (bits ≤ 4096) × (bits ≤ length pow.old) }
-    ensures { Serves g bits (take bits pow.new) firsts.now result }
+// Fills in a power for each of `bits` bits, and lends them with the first positions and the period, from tables that are right.
+pub fn prepare<'a>(g: Generator, bits: usize, tables: Tables<'a>, room: &'a mut [u32]) -> Powers<'a>
+    requires { RightTables g tables.steps.now tables.firsts.now × (bits ≤ 4096) × (bits ≤ length room.old) }
+    ensures { ServedBy g bits result }
 {
-    powers(g, &mut pow[..bits]);
-    tables::period_of(g, steps, firsts)
+    fill_powers(g, &mut room[..bits]);
+    Powers {
+        powers: &room[..bits],
+        firsts: tables.firsts,
+        period: tables::period_of(g, tables) as usize,
+    }
 }
 
 // The first set that is met.
-pub fn meet_first(cursor: Cursor, pow: &[u32], first: &[u16], pos: &mut [u16]) -> Found
-    requires { Prepared cursor pow.now first.now }
-    ensures { Told by_positions (length pow.now) (length pos.old) (walked_by cursor (length pow.now) (length pos.old)) (walked_by cursor (length pow.now) (length pos.old)) result pos.new }
+pub fn meet_first(cursor: Cursor, pos: &mut [u16]) -> Option<usize>
+    requires { Prepared cursor }
+    ensures { FirstMet cursor.entry (length pos.old) result pos.new }
 {
     let g = cursor.generator.coefficients;
-    search::search_first(g, pow, first, cursor.period, cursor.syndrome, pos)
+    search::search_first(g, cursor.powers, cursor.syndrome as usize, pos)
 }
 
 // The first set that is met after the one in front of `pos`, which need not be met itself.
-pub fn meet_next(cursor: Cursor, pow: &[u32], first: &[u16], pos: &mut [u16], count: usize) -> Found
-    requires { Prepared cursor pow.now first.now × InFront (length pow.now) count pos.old }
-    ensures { Told by_positions (length pow.now) (length pos.old) (walked_by cursor (length pow.now) (length pos.old)) (sift (by_positions (take count pos.old)) (walked_by cursor (length pow.now) (length pos.old))) result pos.new }
+pub fn meet_next(cursor: Cursor, pos: &mut [u16], count: usize) -> Option<usize>
+    requires { Prepared cursor × InFront (length cursor.powers.powers.now) count pos.old }
+    ensures { NextMet cursor.entry (length pos.old) (take count pos.old) result pos.new }
 {
     let g = cursor.generator.coefficients;
-    search::search_next(g, pow, first, cursor.period, cursor.syndrome, pos, count)
+    search::search_next(g, cursor.powers, cursor.syndrome as usize, pos, count)
 }

@@ -1,7 +1,5 @@
 -- `meet_next` is the search from positions in front of a slice, for the powers of the generator.
-use mathlib.Core.List.{List}
-use Prim.Native.Nat.{ℕ}
-use lib.ListN.{length, take}
+use Rattle.std.proofs.Common.{ℕ, List, length, take}
 use Rattle.tables.specs.Tables.{power}
 use Rattle.patterns.specs.Listing.{sift}
 use Rattle.patterns.specs.Walk.{by_positions}
@@ -15,9 +13,9 @@ search_next-requires c =
 
 pub returns : goal.returns
 returns c =
-    let s = c in
-    let g = s.args.cursor.generator in
-    let q : List ℕ = take s.args.count s.args.pos.now in
-    told_walk g.degree g.coefficients s.requires.0.fit.divisor (length s.args.pow.now) (length s.args.pos.now) s.args.cursor.syndrome
+    let cursor = c.args.cursor in
+    let g = cursor.generator in
+    let q : List ℕ = take c.args.count c.args.pos.now in
+    told_walk g.degree g.coefficients c.requires.0.fit.divisor (length cursor.powers.powers.now) (length c.args.pos.now) cursor.syndrome
     (λ (xs : List (List ℕ)). sift (by_positions q) xs) c.search_next.result c.search_next.new.pos
-    (c.search_next.ensures (power g.degree g.coefficients) s.requires.0.lookup)
+    (c.search_next.ensures (power g.degree g.coefficients) c.requires.0.lookup)
