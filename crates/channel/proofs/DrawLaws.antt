@@ -6,7 +6,7 @@ use native.Mathlib.Nat.{mod-lt}
 use native.Mathlib.Omega.{arith}
 use lib.Dec.{ltb}
 use lib.ListN.{length, get_or, take, drop}
-use lib.Seq.{length-take-le, length_front, take_all, take-take, take_at}
+use lib.Seq.{length-take-le, length_front, take-take, take_at}
 use Rattle.base.specs.Lists.{Ascending, ends}
 use Rattle.patterns.specs.Listing.{inserted}
 use Rattle.maker.specs.Stream.{next_state, state_after}
@@ -47,7 +47,7 @@ drawing_none seed l old = record { within = omega arith; long = refl; state = re
 
 module _ {seed l x i : ℕ} {old pos : List ℕ} (d : Drawing seed l old pos x i) (inside : i < length old) (room : length old ≤ l) where
   -- the part of the slice that the next draw is lent, and what of it is taken
-  pub lent_length : length (take (i + 1) pos) ≡ i + 1
+  lent_length : length (take (i + 1) pos) ≡ i + 1
   lent_length = length-take-le (i + 1) pos (omega (arith, d.long))
 
   lent_taken : take (length (take (i + 1) pos) - 1) (take (i + 1) pos) ≡ drawn l i seed
@@ -57,10 +57,6 @@ module _ {seed l x i : ℕ} {old pos : List ℕ} (d : Drawing seed l old pos x i
 
   place_below : (y : ℕ) → y % (l - i) < l - i
   place_below y = let h : 0 < l - i = omega arith in mod-lt y h
-
-  -- so a place and the part's length together fit a position
-  pub place_fits : (y : ℕ) → l ≤ 4096 → y % (l - i) + length (take (i + 1) pos) < 65536
-  place_fits y h = omega (arith, place_below y, lent_length)
 
   pub drawing_more : (y place : ℕ) (q : List ℕ) → y ≡ next_state x → place ≡ y % (l - i)
       → (let lent = take (i + 1) pos in let taken = take (length lent - 1) lent in
@@ -81,11 +77,3 @@ module _ {seed l x i : ℕ} {old pos : List ℕ} (d : Drawing seed l old pos x i
         state = state ∙ ap (λ (n : ℕ). state_after n seed) one;
         positions = take_at q (drop (i + 1) pos) (i + 1) long ∙ now ∙ ap (λ (n : ℕ). drawn l n seed) one;
       }
-
-pub drawing_all : {seed l x i : ℕ} {old pos : List ℕ} → Drawing seed l old pos x i → length old ≤ i
-    → (x ≡ state_after (length old) seed) × (pos ≡ drawn l (length old) seed)
-drawing_all {seed} {l} {i = i} {old = old} {pos = pos} d h =
-    let all : i ≡ length old = omega (arith, d.within) in (
-      d.state ∙ ap (λ (n : ℕ). state_after n seed) all,
-      sym (take_all i pos (omega (arith, d.long))) ∙ d.positions ∙ ap (λ (n : ℕ). drawn l n seed) all,
-    )

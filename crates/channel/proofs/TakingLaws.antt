@@ -61,11 +61,6 @@ gap_met {r = r} place a h low high =
       higher = λ j k m. omega (arith, high (omega arith), ascending_on a r j k m);
     }
 
--- what a search upwards has passed, with one more
-pub passed_more : (place i : ℕ) (ts : List ℕ) → ((j : ℕ) → j < i → get_or ts j 0 ≤ place + j) → get_or ts i 0 ≤ place + i
-    → (j : ℕ) → j < i + 1 → get_or ts j 0 ≤ place + j
-passed_more place i ts low here j h = by_order j i (low j) (λ k. let same : i ≡ j = omega arith in rw (← same) here)
-
 gap_more : {place r t : ℕ} {ts : List ℕ} → t ≤ place → Gap (suc place) r ts → Gap place (suc r) (t ∷ ts)
 gap_more {place} {r} {t} {ts} h b = record { within = omega (arith, b.within); lower = low; higher = high }
   where

@@ -15,35 +15,28 @@ fn below(taken: &[u16], place: usize) -> usize
     ensures within { result ≤ length taken.now }
     ensures gap { (l : ℕ) → Ascending l 0 taken.now → Gap place result taken.now }
 {
-    let mut i: usize = 0;
-    while i < taken.len() {
-        let here = taken[i] as usize;
+    for (i, p) in taken.iter().enumerate() {
         let due = place + i;
-        if due < here {
+        if due < *p as usize {
             return i;
         }
-        i += 1;
     }
-    i
+    taken.len()
 }
 
 // Puts a position in at an index. Those from there on move up by one, over the last.
 fn insert(pos: &mut [u16], at: usize, p: u16)
     requires { at < length pos.old }
-    ensures { pos.new ≡ take at (take (length pos.old - 1) pos.old) ++ p ∷ drop at (take (length pos.old - 1) pos.old) }
+    ensures { let kept = take (length pos.old - 1) pos.old in pos.new ≡ take at kept ++ p ∷ drop at kept }
 {
-    let mut i = pos.len() - 1;
-    while at < i {
-        pos[i] = pos[i - 1];
-        i -= 1;
-    }
+    pos[at..].rotate_right(1);
     pos[at] = p;
 }
 
 // Takes the position at a place among those not yet taken. The ones taken are all of the slice but its last element, ascending.
 fn take_at(pos: &mut [u16], place: usize)
     requires { (0 < length pos.old) × (place + length pos.old < 65536) }
-    ensures { (l : ℕ) → Ascending l 0 (take (length pos.old - 1) pos.old) → place + length pos.old ≤ l → pos.new ≡ inserted ltb (get_or (untaken (take (length pos.old - 1) pos.old) l 0) place 0) (take (length pos.old - 1) pos.old) }
+    ensures { let taken = take (length pos.old - 1) pos.old in (l : ℕ) → Ascending l 0 taken → place + length pos.old ≤ l → pos.new ≡ inserted ltb (get_or (untaken taken l 0) place 0) taken }
 {
     let last = pos.len() - 1;
     let at = below(&pos[..last], place);
@@ -57,12 +50,10 @@ pub fn draw(seed: u32, bits: usize, pos: &mut [u16]) -> u32
     ensures positions { pos.new ≡ drawn bits (length pos.old) seed }
 {
     let mut state = seed;
-    let mut i: usize = 0;
-    while i < pos.len() {
+    for i in 0..pos.len() {
         let next = maker::next_state(state);
         take_at(&mut pos[..i + 1], next as usize % (bits - i));
         state = next;
-        i += 1;
     }
     state
 }

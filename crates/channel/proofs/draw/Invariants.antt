@@ -1,13 +1,7 @@
 -- `draw` takes one position after the other. Invariant: the first i draws stand in front.
-use Prim.Native.Nat.{◌-◌}
-use lib.ListN.{length}
 use Rattle.channel.proofs.DrawLaws.{Drawing}
 use Rattle.channel.proofs.draw.Given as goal
 
 abbrev pub invariant-loop-i : goal.invariant-loop-i
 invariant-loop-i l =
     Drawing l.seed l.bits l.initial.pos l.pos l.state l.i
-
-abbrev pub decreases-loop-i : goal.decreases-loop-i
-decreases-loop-i l =
-    length l.initial.pos - l.i

@@ -14,18 +14,6 @@ use Rattle.channel.proofs.take_at.Goals as goal
 short : (l : List ℕ) → 0 < length l → length (take (length l - 1) l) ≡ length l - 1
 short l h = length-take-le _ _ (omega arith)
 
-pub below-at-requires : goal.below-at-requires
-below-at-requires c = omega (arith, c.requires.0, c.requires.1, short c.args.pos.now c.requires.0)
-
-pub overflow_add-place : goal.overflow_add-place
-overflow_add-place c = record { fits = omega (arith, c.below-at.ensures.within, c.requires.1, short c.args.pos.now c.requires.0) }
-
-pub overflow_cast-place : goal.overflow_cast-place
-overflow_cast-place c = record { fits = omega (arith, c.below-at.ensures.within, c.requires.1, short c.args.pos.now c.requires.0) }
-
-pub insert-requires : goal.insert-requires
-insert-requires c = omega (arith, c.below-at.ensures.within, c.requires.0, short c.args.pos.now c.requires.0)
-
 pub returns : goal.returns
 returns c l a h =
     let b = c.below-at in
