@@ -76,6 +76,7 @@ pub fn unfit_values(g: Generator, init: u64, xorout: u64) -> bool
 }
 
 // The bit at a position.
+#[tactic(auto, unfolding(crate::specs::Packet::bit_at))]
 pub fn bit_of(packet: &[u8], p: usize) -> u64
     requires { p < bits packet.now }
     ensures { (result ≡ bit_at packet.now p) × (result < 2) }
@@ -90,7 +91,7 @@ fn flip_bit(packet: &mut [u8], p: usize)
     ensures { packet.new ≡ flip packet.old p }
 {
     let i = packet.len() - 1 - p / 8;
-    packet[i] = packet[i] ^ (1u8 << (p % 8));
+    packet[i] ^= 1u8 << (p % 8);
 }
 
 // Flips the bits at the given positions.

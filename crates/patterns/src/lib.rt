@@ -167,6 +167,7 @@ pub fn unfit_limit(limit: usize) -> bool
 }
 
 // Condition 4.
+#[tactic(auto, using(poly::proofs::GeneratorLaws::shift_one), unfolding(crate::specs::Listing::unfit_syndrome))]
 pub fn unfit_syndrome(g: Generator, syndrome: u64) -> bool
     requires { Fit g }
     ensures { result ≡ unfit_syndrome g.degree syndrome }
