@@ -1,11 +1,11 @@
 -- Marks as bytes: what reading and writing them comes to, and that a mark which was written is read back.
-use mathlib.Core.Path.{◌≡◌, refl, ap, ◌∙◌}
+use mathlib.Core.Path.{◌≡◌, refl, ap}
 use mathlib.Core.Bool.{true}
 use mathlib.Core.List.{List, ◌++◌}
-use Prim.Native.Nat.{ℕ, zero, suc, ◌+◌, ◌-◌, ◌≤◌}
+use Prim.Native.Nat.{ℕ, ◌-◌, ◌≤◌}
 use native.Mathlib.Omega.{arith}
 use lib.Dec.{ltb}
-use lib.ListN.{length, get_or, take, drop, replicate, length-append, length-replicate}
+use lib.ListN.{length, get_or, replicate, length-append, length-replicate}
 use borrow.Author.Tests.{eq-eqb, ne_eqb, le-leb, lt-leb}
 use Rattle.base.proofs.Cases.{by_test, by_equal}
 use Rattle.patterns.specs.Patterns.{most_positions, Point, start, ended, after}
@@ -37,18 +37,6 @@ no_mark_malformed {s} (other_first above below) =
       lt-leb (get_or s 0 0) most_positions above,
     ))
     (λ h. rw (ne_eqb (length s) longest_record h))
-
--- ---- writing ----
-
-pub drop-replicate : (n k a : ℕ) → drop k (replicate n a) ≡ replicate (n - k) a
-drop-replicate n zero a = let e : n ≡ n - 0 = omega arith in ap (λ (m : ℕ). replicate m a) e
-drop-replicate zero (suc k) a = let e : 0 ≡ 0 - suc k = omega arith in ap (λ (m : ℕ). replicate m a) e
-drop-replicate (suc n) (suc k) a = let e : n - k ≡ suc n - suc k = omega arith in drop-replicate n k a ∙ ap (λ (m : ℕ). replicate m a) e
-
--- a record over zeros
-pub record_over_zeros : (s out before : List ℕ) → before ≡ replicate longest_record 0 → out ≡ take 0 before ++ s ++ drop (0 + length s) before → out ≡ padded s
-record_over_zeros s out before z e =
-    let n : 0 + length s ≡ length s = omega arith in e ∙ rw (z, n) (ap (λ (r : List ℕ). s ++ r) (drop-replicate longest_record (length s) 0))
 
 -- ---- reading back ----
 

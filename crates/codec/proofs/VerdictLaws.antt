@@ -1,11 +1,13 @@
 -- Verdicts as bytes: what writing their parts one after the other comes to, and how many bytes they are.
-use mathlib.Core.Path.{◌≡◌, sym, ap, ap₂, ◌∙◌}
-use mathlib.Core.List.{List, ◌∷◌, ◌++◌, append-nil}
-use Prim.Native.Nat.{ℕ, suc, ◌/◌, ◌%◌, ◌<◌, ◌≤◌}
+use mathlib.Core.Path.{◌≡◌, refl, sym, ap, ap₂, ◌∙◌}
+use mathlib.Core.List.{List, [], ◌∷◌, ◌++◌, append-nil}
+use Prim.Native.Nat.{ℕ, zero, suc, ◌-◌, ◌/◌, ◌%◌, ◌^◌, ◌≤◌}
 use native.Mathlib.Omega.{arith}
-use lib.ListN.{length, take, drop, set, length-append, length-drop, length-set, drop_of_length-le}
-use lib.Seq.{set_split, take_at, drop_at, append_snoc, length-take-le, take-suc-set}
-use borrow.Rule.Slice.PartMut.{mid_of, post_of, put_mid, mid_len, same_len_mid}
+use lib.ListN.{length, take, drop, set, length-append, length-drop, drop_of_length-le}
+use lib.Seq.{take_at, take-suc-set}
+use Rattle.std.proofs.Math.Nat.{pow-succ', div-div-eq-div-mul}
+use Rattle.std.specs.Int.{byte_at, bytes_high_first}
+use borrow.Rule.Slice.PartMut.{post_of, put_mid}
 use Rattle.packet.specs.Packet.{bytes_of}
 use Rattle.packet.proofs.PacketLaws.{length_bytes}
 use Rattle.patterns.specs.Patterns.{most_positions}
@@ -15,41 +17,42 @@ use Rattle.codec.specs.Marks.{padded}
 use Rattle.codec.specs.Verdicts.{verdict_length, laid}
 use Rattle.codec.proofs.MarkByteLaws.{padded-length}
 
--- a turn of the loop that writes a number from its last byte on
-pub number_turn : (s : List ℕ) (i left : ℕ) → i < length s → bytes_of i (left / 256) ++ drop i (set s i (left % 256)) ≡ bytes_of (suc i) left ++ drop (suc i) s
+-- ---- the bytes of a number ----
+
+module _ (v : ℕ) where
+  byte_below : (k : ℕ) → byte_at (suc k) v ≡ byte_at k (v / 256)
+  byte_below zero = refl
+  byte_below (suc k) =
+      ap (λ (q : ℕ). q % 256)
+      (ap (λ (p : ℕ). v / p) (pow-succ' 256 (suc k)) ∙ sym (div-div-eq-div-mul v 256 (256 ^ suc k)))
+
+  last_byte : (k : ℕ) → bytes_high_first (suc k) v ≡ bytes_high_first k (v / 256) ++ (v % 256 ∷ [])
+  last_byte zero = refl
+  last_byte (suc k) = ap₂ (λ (b : ℕ) (bs : List ℕ). b ∷ bs) (byte_below k) (last_byte k)
+
+-- std's bytes, high byte first, are ours
+pub high_first : (k v : ℕ) → bytes_high_first k v ≡ bytes_of k v
 unfolding bytes_of
-number_turn s i left h =
-    let n : i ≤ length s = omega arith in
-    ap (λ (t : List ℕ). bytes_of i (left / 256) ++ t)
-    (ap (drop i) (set_split s i (left % 256) h)
-    ∙ drop_at (take i s) (left % 256 ∷ drop (suc i) s) i (length-take-le i s n))
-    ∙ sym (append_snoc (bytes_of i (left / 256)) (left % 256) (drop (suc i) s))
+high_first zero v = refl
+high_first (suc k) v = last_byte v k ∙ ap (λ (bs : List ℕ). bs ++ (v % 256 ∷ [])) (high_first k (v / 256))
 
 -- ---- a verdict in parts: its kind, then a number in eight bytes, then a record ----
 
-module _ (l : List ℕ) (x : ℕ) (full : length l ≡ verdict_length) where
-  number-room : 9 ≤ length (set l 0 x)
-  number-room = omega (arith, length-set l 0 x)
+module _ (l : List ℕ) (x : ℕ) (full : length l ≡ verdict_length) (ys : List ℕ) (eight : length ys ≡ 8) where
+  begun : List ℕ
+  begun = put_mid 1 8 (set l 0 x) ys
 
-  -- what is lent for the number
-  pub room_eight : length (mid_of 1 8 (set l 0 x)) ≡ 8
-  room_eight = mid_len 1 9 (set l 0 x) number-room
+  front : take 9 begun ≡ x ∷ ys
+  unfolding begun
+  front =
+      ap (λ (t : List ℕ). take 9 (t ++ (ys ++ post_of 1 8 (set l 0 x)))) (take-suc-set l 0 x (omega arith))
+      ∙ ap (λ (t : List ℕ). x ∷ t) (take_at ys (post_of 1 8 (set l 0 x)) 8 eight)
 
-  module _ (ys : List ℕ) (eight : length ys ≡ 8) where
-    pub begun_length : length (put_mid 1 8 (set l 0 x) ys) ≡ verdict_length
-    begun_length = same_len_mid 1 8 (set l 0 x) ys (eight ∙ sym room_eight) ∙ length-set l 0 x ∙ full
-
-    front : take 9 (put_mid 1 8 (set l 0 x) ys) ≡ x ∷ ys
-    front =
-        ap (λ (t : List ℕ). take 9 (t ++ (ys ++ post_of 1 8 (set l 0 x)))) (take-suc-set l 0 x (omega arith))
-        ∙ ap (λ (t : List ℕ). x ∷ t) (take_at ys (post_of 1 8 (set l 0 x)) 8 eight)
-
-    pub parts_laid : (zs : List ℕ) → put_mid 9 longest_record (put_mid 1 8 (set l 0 x) ys) zs ≡ x ∷ (ys ++ zs)
-    parts_laid zs =
-        let b = put_mid 1 8 (set l 0 x) ys in
-        let n : length (drop 9 b) ≤ longest_record = omega (arith, begun_length, length-drop 9 b) in
-        ap₂ (λ (s t : List ℕ). s ++ (zs ++ t)) front (drop_of_length-le (drop 9 b) n)
-        ∙ ap (λ (t : List ℕ). x ∷ (ys ++ t)) (append-nil zs)
+  pub parts_laid : (zs : List ℕ) → put_mid 9 (length (put_mid 1 8 (set l 0 x) ys) - 9) (put_mid 1 8 (set l 0 x) ys) zs ≡ x ∷ (ys ++ zs)
+  unfolding begun
+  parts_laid zs =
+      ap₂ (λ (s t : List ℕ). s ++ (zs ++ t)) front (drop_of_length-le (drop 9 begun) (omega (arith, length-drop 9 begun)))
+      ∙ ap (λ (t : List ℕ). x ∷ (ys ++ t)) (append-nil zs)
 
 -- the parts together are as long as a verdict is
 pub laid-length : (kind count : ℕ) (ps : List ℕ) → length ps ≤ most_positions → length (laid kind count ps) ≡ verdict_length
