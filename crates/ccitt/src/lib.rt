@@ -40,9 +40,10 @@ pub fn byte_table() -> [u16; 256]
 }
 
 // The remainder of r * x^8 + b, by one look-up.
-pub fn append(table: &[u16], r: u16, b: u8) -> u16
+pub fn append(table: &[u16; 256], r: u16, b: u8) -> u16
     requires { table.now ≡ byte_table }
     ensures { result ≡ rem ccitt.degree ccitt.coefficients (r * 256 + b) }
 {
-    table[(r / 256) as usize] ^ (r % 256 * 256 + b as u16)
+    let [high, low] = r.to_be_bytes();
+    table[high as usize] ^ u16::from_be_bytes([low, b])
 }

@@ -63,8 +63,8 @@ fn divide(g: Generator, register: u64, packet: &[u8]) -> u64
     r
 }
 
-// The same by ccitt, with one look-up a byte.
-fn divide_by_ccitt(table: &[u16], register: u16, packet: &[u8]) -> u16
+// The same by ccitt, with one look-up a byte. A loop of its own: the step takes a narrower register, and asks nothing of it.
+fn divide_by_ccitt(table: &[u16; 256], register: u16, packet: &[u8]) -> u16
     requires { table.now ≡ byte_table }
     ensures { result ≡ rem ccitt.degree ccitt.coefficients (polynomial_after register packet.now) }
 {
@@ -80,9 +80,7 @@ fn first_two(packet: &[u8]) -> u16
     requires { 2 ≤ length packet.now }
     ensures { result ≡ polynomial (take 2 packet.now) }
 {
-    let high = packet[0] as u16;
-    let low = packet[1] as u16;
-    high * 256 + low
+    u16::from_be_bytes([packet[0], packet[1]])
 }
 
 // The remainder of a packet by ccitt: the register starts with the first 16 bits, the initial value added to them.

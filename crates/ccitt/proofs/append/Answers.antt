@@ -1,12 +1,14 @@
 -- `append` looks up the high byte of r, which stands from x^16 on in r * x^8 + b, and adds what is below.
+use mathlib.Core.Path.{ap}
+use mathlib.Core.List.{List}
+use Prim.Native.Nat.{ℕ}
 use native.Mathlib.Omega.{arith}
-use Rattle.ccitt.proofs.ByteLaws.{table_length, by_entry}
+use lib.ListN.{get_or}
+use Rattle.ccitt.proofs.ByteLaws.{by_entry}
 use Rattle.ccitt.proofs.append.Goals as goal
-
-pub bounds-table-r : goal.bounds-table-r
-bounds-table-r c = omega (arith, table_length c.requires, c.ranges.r.fits)
 
 pub returns : goal.returns
 returns c =
-    let s = c in
-    by_entry s.args.r s.args.b s.ranges.r.fits s.ranges.b.fits s.requires (omega arith) (omega arith)
+    let high = ap (λ (l : List ℕ). get_or l 0 0) c.to_be_bytes.ensures in
+    let low = ap (λ (l : List ℕ). get_or l 1 0) c.to_be_bytes.ensures in
+    by_entry c.args.r c.args.b c.ranges.r.fits c.ranges.b.fits c.requires (omega (arith, high)) (omega (arith, low, c.from_be_bytes.ensures))
