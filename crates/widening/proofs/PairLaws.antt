@@ -30,9 +30,6 @@ module _ (power : ℕ → ℕ) (l u : ℕ) where
       let z : u ≡ bit_xor (power c) (power (c + f)) = xor_zero_equal u (bit_xor (power c) (power (c + f))) (sym m.sums ∙ nothing qs m.counts) in
       (c, i, rest (power c) (power (c + f)) u z ∙ xor_comm (power c) u)
 
-  pub pairs_none : (d : ℕ) → Pairs d l 0
-  pairs_none d c f h = absurd (omega arith)
-
   pub pairs_spanless : (d e a : ℕ) → l ≤ a + d → Pairs d e a → Spanless power l 0 u d e
   pairs_spanless d e a h p f i j ps m = let r = of_two f ps m in omega (arith, p r.0 f (omega (arith, r.1)) i r.1 r.2)
 
@@ -46,6 +43,3 @@ module _ (power : ℕ → ℕ) (l u : ℕ) where
       by_order (a + f) b
       (λ lt. absurd (near.skipped (a + f) (omega arith) lt (omega arith) (sym (ap (λ (x : ℕ). power (x + f)) same) ∙ q ∙ ap (λ (x : ℕ). bit_xor u (power x)) same ∙ sym sum)))
       (λ ge. omega (arith, k (omega arith))))
-
-pub spanless_self : (power : ℕ → ℕ) (l k u d : ℕ) → Spanless power l k u d d
-spanless_self power l k u d f h j ps m = omega arith
