@@ -4,6 +4,7 @@ use lib.ListN.{length}
 use Rattle.ordered.proofs.RiseLaws.{none_summing}
 use Rattle.ordered.proofs.first_or_skip.Goals as goal
 
-pub returns-then-ruled_out : goal.returns-then-ruled_out
-returns-then-ruled_out c power t =
-    none_summing c.args.generator (length c.args.pos.now) c.args.u (sym c.ruled_out.ensures ∙ c.if-ruled_out.true) t c.requires.1
+pub returns-else-not-ruled_out : goal.returns-else-not-ruled_out
+returns-else-not-ruled_out c power t =
+    rw c.if-not-ruled_out.false
+    (none_summing c.args.generator (length c.args.pos.now) c.args.u (sym c.ruled_out.ensures ∙ c.if-not-ruled_out.false) t c.requires.1)
