@@ -107,6 +107,10 @@ digits_u8 v h = decimal-length 2 v (omega arith)
 pub digits_u16 : (v : ℕ) → v < 2 ^ 16 → length (decimal v) ≤ 5
 digits_u16 v h = decimal-length 4 v (omega arith)
 
+-- one of two bytes fits where there is room for five digits
+pub two_bytes_fit : {v room : ℕ} (to : ℕ) → v < 65536 → to + 5 ≤ room → to + length (decimal v) ≤ room
+two_bytes_fit {v} to h k = omega (arith, digits_u16 v (omega arith))
+
 pub digits_u64 : (v : ℕ) → v < 2 ^ 64 → length (decimal v) ≤ 20
 digits_u64 v h = decimal-length 19 v (omega arith)
 
