@@ -73,7 +73,9 @@ impl<'a> Powers<'a> {
         }
     }
 
-    // Places two positions: the first goes through the positions, and the second is looked up.
+    // Places two positions: the first goes through the positions, and the second is looked up. Its loop is where a search spends its
+    // time, and inside `place` it would lack registers.
+    #[inline(never)]
     fn pair(self, lo: usize, u: usize, pos: &mut [u16]) -> bool
         requires { ReadyFor self lo u × (length pos.old ≡ 2) }
         ensures { Placed self.entry 2 lo u result pos.new }
@@ -122,6 +124,7 @@ impl<'a> Powers<'a> {
     }
 
     // Goes on from two positions. It is `resume` for two, and spelt out since a repair does it for each set.
+    #[tactic(auto, using(crate::proofs::TailLaws::head_below, crate::proofs::TailLaws::second_below))]
     fn resume_pair(self, u: usize, pos: &mut [u16]) -> bool
         requires { ReadyFor self 0 u × (length pos.old ≡ 2) × Ascending (length self.powers.now) 0 pos.old }
         ensures { Resumed self.entry u pos.old result pos.new }
@@ -137,6 +140,7 @@ impl<'a> Powers<'a> {
 
     // Goes on from the positions in `pos`, which need not have the sum `u`: to the first set of as many positions that
     // comes after them.
+    #[tactic(auto, using(crate::proofs::TailLaws::head_below))]
     pub fn resume(self, u: usize, pos: &mut [u16]) -> bool
         requires { ReadyFor self 0 u × Ascending (length self.powers.now) 0 pos.old }
         ensures { Resumed self.entry u pos.old result pos.new }

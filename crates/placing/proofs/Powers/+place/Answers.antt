@@ -4,7 +4,7 @@ use Rattle.std.proofs.Common.{◌≡◌, ℕ, suc, ◌-◌, length, sym, ap, ◌
 use Rattle.placing.specs.Placing.{first_from}
 use Rattle.placing.proofs.HeadLaws.{first_from_past}
 use Rattle.placing.proofs.NearestLaws.{ready_next}
-use Rattle.placing.proofs.TailLaws.{tail_length, tail_back_length, place_hit, place_miss}
+use Rattle.placing.proofs.TailLaws.{tail_length, place_hit, place_miss}
 use Rattle.placing.proofs.Powers.+place.Goals as goal
 
 pub place-requires : goal.place-requires
@@ -16,18 +16,15 @@ pub returns-then-place : goal.returns-then-place
 returns-then-place t c power l =
     let i = c.loop-a in
     let p = c.place in
-    place_hit l i.a c.args.u (length c.args.pos.now) i.pos p.new.pos p.result (omega arith) i.invariant.0 (omega arith) _ (omega arith) (p.ensures power l) c.if-place.true
-    ∙ sym (i.invariant.1 power l)
+    place_hit l i.a c.args.u (length c.args.pos.now) i.pos p.new.pos p.result (omega arith) (omega arith) (omega arith) _ (omega arith) (p.ensures power l) c.if-place.true
+    ∙ sym (i.invariant power l)
 
 pub loop-a-preserved : goal.loop-a-preserved
-loop-a-preserved t c =
+loop-a-preserved t c power l =
     let i = c.loop-a in
-    let p = c.place in (
-      tail_back_length i.pos p.new.pos (omega arith) p.auto.pos ∙ i.invariant.0,
-      λ power l.
-          i.invariant.1 power l
-          ∙ place_miss l i.a c.args.u (length c.args.pos.now) i.pos p.new.pos p.result (omega arith) i.invariant.0 (omega arith) _ (omega arith) (p.ensures power l) c.if-place.false,
-    )
+    let p = c.place in
+    i.invariant power l
+    ∙ place_miss l i.a c.args.u (length c.args.pos.now) i.pos p.new.pos p.result (omega arith) (omega arith) (omega arith) _ (omega arith) (p.ensures power l) c.if-place.false
 
 pub returns : goal.returns
 returns t c power l =
@@ -35,6 +32,6 @@ returns t c power l =
     let i = c.loop-a in
     let e : n ≡ suc (n - 1) = omega arith in
     sym
-    (i.invariant.1 power l
+    (i.invariant power l
     ∙ ap (λ (k : ℕ). first_from power (length c.args.self.powers.now) k i.a c.args.u) e
     ∙ first_from_past power (length c.args.self.powers.now) (n - 1) i.a c.args.u (omega arith))

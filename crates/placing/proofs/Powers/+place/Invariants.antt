@@ -9,6 +9,5 @@ decreases-place l = length l.pos.now
 
 abbrev pub invariant-loop-a : goal.invariant-loop-a
 invariant-loop-a l =
-    (length l.pos ≡ length l.initial.pos)
-    × ((power : ℕ → ℕ) → Describes power l.self
-    → first_from power (length l.self.powers.now) (length l.initial.pos) l.lo l.u ≡ first_from power (length l.self.powers.now) (length l.initial.pos) l.a l.u)
+    (power : ℕ → ℕ) → Describes power l.self
+    → first_from power (length l.self.powers.now) (length l.initial.pos) l.lo l.u ≡ first_from power (length l.self.powers.now) (length l.initial.pos) l.a l.u

@@ -2,15 +2,12 @@
 -- position less to go on from.
 use Rattle.std.proofs.Common.{length, get_or, sym, ◌∙◌, arith}
 use Rattle.placing.proofs.HeadLaws.{first_after_empty}
-use Rattle.placing.proofs.NearestLaws.{ready_next, ready_at}
+use Rattle.placing.proofs.NearestLaws.{ready_next}
 use Rattle.placing.proofs.TailLaws.{tail_length, head_below, tail_ascends, resume_hit, resume_miss}
 use Rattle.placing.proofs.Powers.+resume.Goals as goal
 
 pub returns-then-pos-eq0 : goal.returns-then-pos-eq0
 returns-then-pos-eq0 t c power l = sym (first_after_empty power (length c.args.self.powers.now) c.args.u c.args.pos.now (omega arith))
-
-pub bounds-self-p : goal.bounds-self-p
-bounds-self-p t c = head_below c.requires.1 (omega arith)
 
 pub resume-requires : goal.resume-requires
 resume-requires t c =
@@ -18,14 +15,6 @@ resume-requires t c =
       omega (arith, tail_length c.args.pos.now, c.decreases),
       (ready_next c.requires.0 (get_or c.args.pos.now 0 0) h (omega arith), tail_ascends c.requires.1 (omega arith)),
     )
-
-pub overflow_add-p : goal.overflow_add-p
-overflow_add-p t c = omega (arith, head_below c.requires.1 (omega arith))
-
-pub place-requires : goal.place-requires
-place-requires t c =
-    let h = head_below c.requires.1 (omega arith) in
-    ready_at c.requires.0 (omega arith)
 
 pub returns-then-resume : goal.returns-then-resume
 returns-then-resume t c power l =

@@ -13,15 +13,15 @@ pub returns-in-Some : goal.returns-in-Some
 returns-in-Some c power t =
     let i = c.loop-a in
     let n = c.in-Some.ensures in
-    ap starts (set_two i.pos i.a c.in-Some.b i.invariant.0)
-    ∙ sym (i.invariant.1 power t ∙ pair_turn t i.a c.args.u (omega arith) (omega arith) (Some c.in-Some.b) (n.0, n.1 power t))
+    ap starts (set_two i.pos i.a c.in-Some.b (omega arith))
+    ∙ sym (i.invariant power t ∙ pair_turn t i.a c.args.u (omega arith) (omega arith) (Some c.in-Some.b) (n.0, n.1 power t))
 
 pub loop-a-preserved : goal.loop-a-preserved
-loop-a-preserved c =
+loop-a-preserved c power t =
     let i = c.loop-a in
-    (i.invariant.0, λ power t. i.invariant.1 power t ∙ pair_turn t i.a c.args.u (omega arith) (omega arith) None (c.in_default.ensures power t))
+    i.invariant power t ∙ pair_turn t i.a c.args.u (omega arith) (omega arith) None (c.in_default.ensures power t)
 
 pub returns : goal.returns
 returns c power t =
     let l = length c.args.self.powers.now in
-    sym (c.loop-a.invariant.1 power t ∙ first_from_past power l 1 c.loop-a.a c.args.u (omega arith))
+    sym (c.loop-a.invariant power t ∙ first_from_past power l 1 c.loop-a.a c.args.u (omega arith))

@@ -6,5 +6,4 @@ use Rattle.placing.proofs.Powers.pair.Given as goal
 
 abbrev pub invariant-loop-a : goal.invariant-loop-a
 invariant-loop-a l =
-    (length l.pos ≡ 2)
-    × ((power : ℕ → ℕ) → Describes power l.self → first_from power (length l.self.powers.now) 2 l.lo l.u ≡ first_from power (length l.self.powers.now) 2 l.a l.u)
+    (power : ℕ → ℕ) → Describes power l.self → first_from power (length l.self.powers.now) 2 l.lo l.u ≡ first_from power (length l.self.powers.now) 2 l.a l.u

@@ -1,18 +1,9 @@
 -- `resume_pair` finds the first set of two that comes after the given one: with the same first position, or a later.
 use Rattle.std.proofs.Common.{Some, None, get_or, sym, ap, ◌∙◌, arith}
 use Rattle.placing.specs.Placing.{starts}
-use Rattle.placing.proofs.NearestLaws.{ready_next, ready_at}
+use Rattle.placing.proofs.NearestLaws.{ready_next}
 use Rattle.placing.proofs.TailLaws.{head_below, second_below, pair_after, set_second}
 use Rattle.placing.proofs.Powers.resume_pair.Goals as goal
-
-pub overflow_add-q : goal.overflow_add-q
-overflow_add-q c = omega (arith, second_below c.requires.2 (omega arith))
-
-pub offset_bounds-self-p : goal.offset_bounds-self-p
-offset_bounds-self-p c = omega (arith, head_below c.requires.2 (omega arith))
-
-pub bounds-self-p : goal.bounds-self-p
-bounds-self-p c = head_below c.requires.2 (omega arith)
 
 pub nearest-requires : goal.nearest-requires
 nearest-requires c =
@@ -25,14 +16,6 @@ returns-in-Some c power t =
     let n = c.in-Some.ensures in
     ap starts (set_second pos c.in-Some.b c.requires.1)
     ∙ sym (pair_after t c.args.u pos c.requires.1 c.requires.2 (omega arith) (Some c.in-Some.b) (n.0, n.1 power t))
-
-pub overflow_add-p : goal.overflow_add-p
-overflow_add-p c = omega (arith, head_below c.requires.2 (omega arith))
-
-pub pair-requires : goal.pair-requires
-pair-requires c =
-    let h = head_below c.requires.2 (omega arith) in
-    (ready_at c.requires.0 (omega arith), c.requires.1)
 
 pub returns : goal.returns
 returns c power t =
