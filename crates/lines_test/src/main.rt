@@ -1,134 +1,121 @@
 // Prints what is read of lines that are right or wrong at one place, and the text of a few records.
 #![tactic(auto)]
 
+ghost use Rattle.std.specs.Prelude.{◌*◌, ◌≤◌, length};
+
 use base::Refusal;
 use std::io;
 
-// As many numbers as there is room for, and whether the input is a line of so many.
-fn read_into(rt: &impl Print, input: &[u8], numbers: &mut [u64]) -> io::Result<()> {
-    let whole = parsing::parse(input, numbers);
-    testkit::print_numbers(rt, numbers)?;
-    if whole {
-        testkit::print(rt, b"line\n")?;
-        return Ok(());
+// Reads N numbers of each input, and prints as many as there is room for, and whether the input is a line of so many.
+fn read<const N: usize>(rt: &impl Print, inputs: &[&str]) -> io::Result<()>
+    requires { N ≤ 4 }
+{
+    for input in inputs {
+        let mut numbers = [7u64; N];
+        let whole = parsing::parse(input.as_bytes(), &mut numbers);
+        testkit::print_numbers(rt, &numbers)?;
+        println!(rt; "{}", if whole { "line" } else { "bad" })?;
     }
-    testkit::print(rt, b"bad\n")
-}
-
-fn read(rt: &impl Print, input: &[u8]) -> io::Result<()> {
-    let mut numbers = [7u64; 4];
-    read_into(rt, input, &mut numbers)
-}
-
-fn read_three(rt: &impl Print, input: &[u8]) -> io::Result<()> {
-    let mut numbers = [7u64; 3];
-    read_into(rt, input, &mut numbers)
+    Ok(())
 }
 
 // The text of some records, with the number of its bytes.
-fn print_page(rt: &impl Print, page: &[u8]) -> io::Result<()> {
-    let mut out = [46u8; 64];
-    if 16 < page.len() {
-        return Ok(());
-    }
+fn print_page(rt: &impl Print, page: &[u8]) -> io::Result<()>
+    requires { 4 * length page.now ≤ 64 }
+{
+    let mut out = [b'.'; 64];
     let n = lines::page_text(page, &mut out);
-    testkit::print_number(rt, n as u64, b'\n')?;
-    testkit::print(rt, &out)?;
-    testkit::print(rt, b"\n")
+    println!(rt; "{n}")?;
+    rt.write_all(&out)?;
+    println!(rt; "")
+}
+
+// A line with the number of its bytes in front.
+fn print_line(rt: &impl Print, line: &[u8]) -> io::Result<()> {
+    print!(rt; "{} ", line.len())?;
+    rt.write_all(line)
 }
 
 fn print_end(rt: &impl Print, count: u64) -> io::Result<()> {
-    let mut out = [46u8; 32];
+    let mut out = [b'.'; 32];
     let n = lines::end_line(count, &mut out);
-    testkit::print_number(rt, n as u64, b' ')?;
-    testkit::print(rt, &out[..n])
+    print_line(rt, &out[..n])
 }
 
 fn print_refused(rt: &impl Print, refusal: Refusal) -> io::Result<()> {
-    let mut out = [46u8; 32];
+    let mut out = [b'.'; 32];
     let n = lines::refused_line(refusal, &mut out);
-    testkit::print_number(rt, n as u64, b' ')?;
-    testkit::print(rt, &out[..n])
+    print_line(rt, &out[..n])
 }
 
 fn print_bad(rt: &impl Print) -> io::Result<()> {
-    let mut out = [46u8; 32];
+    let mut out = [b'.'; 32];
     let n = lines::bad_line(&mut out);
-    testkit::print_number(rt, n as u64, b' ')?;
-    testkit::print(rt, &out[..n])
+    print_line(rt, &out[..n])
 }
 
-fn right_lines(rt: &impl Print) -> io::Result<()> {
-    read(rt, b"53 8 2 3\n")?;
-    read(rt, b"000000053 8 2 3\n")?;
-    read(rt, b"0 0 0 0\n")?;
-    read(rt, b"999999999 999999999 999999999 999999999\n")?;
-    read(rt, b"1 02 003 000000004\n")
-}
+const RIGHT_LINES: [&str; 5] = [
+    "53 8 2 3\n",
+    "000000053 8 2 3\n",
+    "0 0 0 0\n",
+    "999999999 999999999 999999999 999999999\n",
+    "1 02 003 000000004\n",
+];
 
-fn wrong_blanks(rt: &impl Print) -> io::Result<()> {
-    read(rt, b"53  8 2 3\n")?;
-    read(rt, b" 53 8 2 3\n")?;
-    read(rt, b"53 8 2 3 \n")?;
-    read(rt, b"53\t8 2 3\n")?;
-    read(rt, b"53 82 3\n")?;
-    read(rt, b"53 8 2 3 4\n")
-}
+const WRONG_BLANKS: [&str; 6] = [
+    "53  8 2 3\n",
+    " 53 8 2 3\n",
+    "53 8 2 3 \n",
+    "53\t8 2 3\n",
+    "53 82 3\n",
+    "53 8 2 3 4\n",
+];
 
-fn wrong_ends(rt: &impl Print) -> io::Result<()> {
-    read(rt, b"")?;
-    read(rt, b"\n")?;
-    read(rt, b"53 8 2 3")?;
-    read(rt, b"53 8 2 3\r\n")?;
-    read(rt, b"53 8 2 3\n\n")?;
-    read(rt, b"53 8 2 3\n5")?;
-    read(rt, b"53 8 2 \n")?;
-    read(rt, b"53 8\n2 3\n")
-}
+const WRONG_ENDS: [&str; 8] = [
+    "",
+    "\n",
+    "53 8 2 3",
+    "53 8 2 3\r\n",
+    "53 8 2 3\n\n",
+    "53 8 2 3\n5",
+    "53 8 2 \n",
+    "53 8\n2 3\n",
+];
 
-fn wrong_digits(rt: &impl Print) -> io::Result<()> {
-    read(rt, b"0000000053 8 2 3\n")?;
-    read(rt, b"53 8 2 1000000000\n")?;
-    read(rt, b"+53 8 2 3\n")?;
-    read(rt, b"53 8 2 -3\n")?;
-    read(rt, b"53 8 2 3h\n")?;
-    read(rt, b"5: 8 2 3\n")?;
-    read(rt, b"5/ 8 2 3\n")?;
-    read(rt, b"five 8 2 3\n")
-}
+const WRONG_DIGITS: [&str; 8] = [
+    "0000000053 8 2 3\n",
+    "53 8 2 1000000000\n",
+    "+53 8 2 3\n",
+    "53 8 2 -3\n",
+    "53 8 2 3h\n",
+    "5: 8 2 3\n",
+    "5/ 8 2 3\n",
+    "five 8 2 3\n",
+];
 
-fn other_counts(rt: &impl Print) -> io::Result<()> {
-    read_three(rt, b"53 8 2\n")?;
-    read_three(rt, b"53 8 2 3\n")?;
-    read_three(rt, b"53 8\n")?;
-    read_three(rt, b"53 8 2")
-}
-
-fn pages(rt: &impl Print) -> io::Result<()> {
-    print_page(rt, b"")?;
-    print_page(rt, b"\x00")?;
-    print_page(rt, b"\x02\x00\x00\x00\x01")?;
-    print_page(rt, b"\x01\x0f\xff\x00\x01\x00\x0a")?;
-    print_page(rt, b"\x01\xff\xff\x02\x00\x01\x00")?;
-    print_page(rt, b"\x00\x00\x00\x00\x00\x00\x00\x00\x00")
-}
+const THREE_NUMBERS: [&str; 4] = ["53 8 2\n", "53 8 2 3\n", "53 8\n", "53 8 2"];
 
 fn main(rt: HostRuntime) -> io::Result<()> {
-    right_lines(&rt)?;
-    testkit::print(&rt, b"blanks\n")?;
-    wrong_blanks(&rt)?;
-    testkit::print(&rt, b"ends\n")?;
-    wrong_ends(&rt)?;
-    testkit::print(&rt, b"digits\n")?;
-    wrong_digits(&rt)?;
-    testkit::print(&rt, b"three numbers\n")?;
-    other_counts(&rt)?;
-    testkit::print(&rt, b"pages\n")?;
-    pages(&rt)?;
-    testkit::print(&rt, b"closing lines\n")?;
+    read::<4>(&rt, &RIGHT_LINES)?;
+    println!(rt; "blanks")?;
+    read::<4>(&rt, &WRONG_BLANKS)?;
+    println!(rt; "ends")?;
+    read::<4>(&rt, &WRONG_ENDS)?;
+    println!(rt; "digits")?;
+    read::<4>(&rt, &WRONG_DIGITS)?;
+    println!(rt; "three numbers")?;
+    read::<3>(&rt, &THREE_NUMBERS)?;
+    println!(rt; "pages")?;
+    print_page(&rt, b"")?;
+    print_page(&rt, b"\x00")?;
+    print_page(&rt, b"\x02\x00\x00\x00\x01")?;
+    print_page(&rt, b"\x01\x0f\xff\x00\x01\x00\x0a")?;
+    print_page(&rt, b"\x01\xff\xff\x02\x00\x01\x00")?;
+    print_page(&rt, b"\x00\x00\x00\x00\x00\x00\x00\x00\x00")?;
+    println!(rt; "closing lines")?;
     print_end(&rt, 0)?;
     print_end(&rt, 2)?;
-    print_end(&rt, 18446744073709551615)?;
+    print_end(&rt, u64::MAX)?;
     print_refused(&rt, Refusal::Generator)?;
     print_refused(&rt, Refusal::Field)?;
     print_bad(&rt)
