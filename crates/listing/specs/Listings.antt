@@ -1,15 +1,21 @@
 -- What the list in its order asks and tells: for inner functions alone.
-use Rattle.std.specs.Prelude.{ℕ, ◌^◌, ◌<◌, ◌≤◌, List, length}
+use Rattle.std.specs.Prelude.{ℕ, ◌^◌, ◌<◌, ◌≤◌, List, Option, length}
 use Rattle.base.specs.Lists.{Ascending}
 use Rattle.poly.specs.declared.Generator.{Generator}
 use Rattle.patterns.specs.Patterns.{most_positions, Point, start, ended, after}
 use Rattle.patterns.specs.Listing.{listing}
+use Rattle.patterns.specs.Order.{before}
+use Rattle.search.specs.Search.{Told}
 use Rattle.cursor.specs.Cursors.{RightTables}
 use Rattle.cursor.specs.declared.Cursor.{Cursor}
 
--- the list of a cursor's generator and syndrome, for l bits and a limit
-abbrev pub listed_by : Cursor → ℕ → ℕ → List (List ℕ)
-listed_by c l limit = listing c.generator.degree c.generator.coefficients l limit c.syndrome
+-- the list of a cursor's generator, length and syndrome, for a limit
+abbrev pub listed_by : Cursor → ℕ → List (List ℕ)
+listed_by c limit = listing c.generator.degree c.generator.coefficients (length c.powers.powers.now) limit c.syndrome
+
+-- what is told of a search through `ahead`, a part of that list
+abbrev pub ListTold : Cursor → ℕ → List (List ℕ) → Option ℕ → List ℕ → Type 0
+ListTold c limit ahead r pos = Told before (length c.powers.powers.now) limit (listed_by c limit) ahead r pos
 
 -- a mark from which a search for at most so many positions below l can go on
 abbrev pub Marked : ℕ → ℕ → Point → Type 0

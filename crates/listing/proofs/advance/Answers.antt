@@ -14,9 +14,8 @@ order_next-requires c =
 
 pub returns : goal.returns
 returns c =
-    let f = c in
-    let s = f in
-    let g = s.args.cursor.generator in
-    let q : List ℕ = take s.args.count s.args.pos.now in
-    next_told g.degree g.coefficients (length s.args.pow.now) (length s.args.pos.now) s.args.cursor.syndrome s.requires.0.fit.divisor q
-    f.order_next.result f.order_next.new.pos f.order_next.ensures.counted (f.order_next.ensures.next (power g.degree g.coefficients) s.requires.0.lookup)
+    let cursor = c.args.cursor in
+    let g = cursor.generator in
+    let q : List ℕ = take c.args.count c.args.pos.now in
+    next_told g.degree g.coefficients (length cursor.powers.powers.now) (length c.args.pos.now) cursor.syndrome c.requires.0.fit.divisor q
+    c.order_next.result c.order_next.new.pos c.order_next.ensures.counted (c.order_next.ensures.next (power g.degree g.coefficients) c.requires.0.lookup)

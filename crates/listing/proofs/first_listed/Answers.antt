@@ -6,12 +6,11 @@ use Rattle.listing.proofs.ListedLaws.{first_told}
 use Rattle.listing.proofs.first_listed.Goals as goal
 
 pub order_first-requires : goal.order_first-requires
-order_first-requires c = let p = c.requires in (p.ready, odd_ones p)
+order_first-requires c = (c.requires.ready, odd_ones c.requires)
 
 pub returns : goal.returns
 returns c =
-    let f = c in
-    let s = f in
-    let g = s.args.cursor.generator in
-    first_told g.degree g.coefficients (length s.args.pow.now) (length s.args.pos.now) s.args.cursor.syndrome s.requires.fit.divisor
-    f.order_first.result f.order_first.new.pos f.order_first.ensures.counted (f.order_first.ensures.first (power g.degree g.coefficients) s.requires.lookup)
+    let cursor = c.args.cursor in
+    let g = cursor.generator in
+    first_told g.degree g.coefficients (length cursor.powers.powers.now) (length c.args.pos.now) cursor.syndrome c.requires.fit.divisor
+    c.order_first.result c.order_first.new.pos c.order_first.ensures.counted (c.order_first.ensures.first (power g.degree g.coefficients) c.requires.lookup)
