@@ -1,3 +1,2 @@
-pub mod SettledLaws
 pub mod VerdictLaws
 pub mod SentLaws

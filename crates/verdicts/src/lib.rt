@@ -8,7 +8,7 @@ ghost use Rattle.packet.specs.Packet.{bits, flips};
 ghost use Rattle.checksum.specs.Checksum.{passes};
 ghost use Rattle.weighing.specs.Totals.{Weighs};
 ghost use Rattle.patterns.specs.Patterns.{positions};
-ghost use Rattle.cursor.specs.Cursors.{Serves};
+ghost use Rattle.cursor.specs.Cursors.{ServedBy};
 ghost use Rattle.tallies.specs.Tallies.{Tallied};
 ghost use Rattle.verdicts.specs.Verdicts.{said, settled, verdict, output_for};
 ghost use Rattle.verdicts.specs.Settling.{Settleable};
@@ -16,7 +16,8 @@ ghost use Rattle.verdicts.specs.Settling.{Settleable};
 use checksum::Check;
 use cursor::Cursor;
 use packet::Crc;
-use patterns::Pattern;
+use patterns::{Pattern, Positions};
+use placing::Powers;
 use tallies::Tally;
 use weighing::Weighed;
 
@@ -28,68 +29,52 @@ pub enum Verdict {
     None,
 }
 
+// What the verdict on a packet is taken by: its two checks, and the most positions of a pattern.
+#[derive(Clone, Copy)]
+pub struct Settings {
+    pub crc: Crc,
+    pub check: Check,
+    pub limit: usize,
+}
+
 // The verdict by a tally.
-fn by_tally(t: Tally) -> Verdict
-    ensures { (kept : List (List ℕ)) → Tallied kept t → said result ≡ settled kept }
-{
-    let count = t.count;
-    let chosen = t.chosen;
-    if count == 0 {
-        return Verdict::None;
+impl From<Tally> for Verdict {
+    fn from(tally: Tally) -> Verdict
+        ensures { (kept : List (List ℕ)) → Tallied kept tally → said result ≡ settled kept }
+    {
+        match tally.earliest {
+            None => Verdict::None,
+            Some(p) if tally.count == 1 => Verdict::Repaired(p),
+            Some(p) => Verdict::Several(tally.count, p),
+        }
     }
-    if count == 1 {
-        return Verdict::Repaired(chosen);
-    }
-    Verdict::Several(count, chosen)
 }
 
 // Whether a packet passes both checks, by its remainder and the second check.
-fn both_pass(syndrome: u64, w: Weighed, packet: &[u8]) -> bool
-    requires { Weighs w packet.now }
-    ensures { result ≡ (eqb syndrome 0 && passes w.check packet.now) }
+fn both_pass(syndrome: u64, weighed: Weighed) -> bool
+    requires { Weighs weighed }
+    ensures { result ≡ (eqb syndrome 0 && passes weighed.entry.check weighed.entry.packet.now) }
 {
-    if syndrome != 0 {
-        return false;
-    }
-    weighing::passes_received(w, packet)
+    syndrome == 0 && weighed.passes_received()
 }
 
-// The verdict on a packet, by powers, first positions and a period that serve its generator and length.
-fn settle(
-    crc: Crc,
-    check: Check,
-    limit: usize,
-    period: u64,
-    pow: &[u32],
-    firsts: &[u16],
-    packet: &[u8],
-) -> Verdict
-    requires { Settleable crc check limit packet.now × Serves crc.generator (bits packet.now) pow.now firsts.now period }
-    ensures { said result ≡ verdict crc check limit packet.now }
+// The verdict on a packet, by powers that serve its generator and length.
+fn settle(settings: Settings, powers: Powers, packet: &[u8]) -> Verdict
+    requires { Settleable settings.crc settings.check settings.limit packet.now × ServedBy settings.crc.generator (bits packet.now) powers }
+    ensures { said result ≡ verdict settings.crc settings.check settings.limit packet.now }
 {
-    let generator = crc.generator;
+    let Settings { crc, check, limit } = settings;
     let syndrome = remainders::remainder_of(crc, packet);
-    let w = weighing::weigh(check, packet);
-    if both_pass(syndrome, w, packet) {
+    let weighed = weighing::weigh(check, packet);
+    if both_pass(syndrome, weighed) {
         return Verdict::Intact;
     }
     let cursor = Cursor {
-        generator,
-        period,
+        generator: crc.generator,
+        powers,
         syndrome,
     };
-    by_tally(tallies::tally_all(cursor, limit, pow, firsts, w, packet))
-}
-
-fn copy_to(packet: &[u8], output: &mut [u8])
-    requires { length output.old ≡ length packet.now }
-    ensures { output.new ≡ packet.now }
-{
-    let mut i: usize = 0;
-    while i < packet.len() {
-        output[i] = packet[i];
-        i += 1;
-    }
+    Verdict::from(tallies::tally_all(cursor, limit, weighed))
 }
 
 // Writes the packet with a pattern's bits flipped.
@@ -97,35 +82,20 @@ fn mend(packet: &[u8], p: Pattern, output: &mut [u8])
     requires { (length output.old ≡ length packet.now) × All (λ (q : ℕ). q < bits packet.now) (positions p) }
     ensures { output.new ≡ flips packet.now (positions p) }
 {
-    copy_to(packet, output);
-    let held = patterns::spread(p);
-    let n = patterns::count_of(p);
-    packet::flip_bits(output, &held[..n]);
+    output.copy_from_slice(packet);
+    let held = Positions::of(p);
+    packet::flip_bits(output, held.as_slice());
 }
 
 // The verdict on a packet, with the mended packet in the output where one pattern passes.
-pub fn conclude(
-    crc: Crc,
-    check: Check,
-    limit: usize,
-    period: u64,
-    pow: &[u32],
-    firsts: &[u16],
-    packet: &[u8],
-    output: &mut [u8],
-) -> Verdict
-    requires { Settleable crc check limit packet.now × Serves crc.generator (bits packet.now) pow.now firsts.now period × (length output.old ≡ length packet.now) }
-    ensures verdict { said result ≡ verdict crc check limit packet.now }
-    ensures bytes { output.new ≡ output_for crc check limit packet.now output.old }
+pub fn conclude(settings: Settings, powers: Powers, packet: &[u8], output: &mut [u8]) -> Verdict
+    requires { Settleable settings.crc settings.check settings.limit packet.now × ServedBy settings.crc.generator (bits packet.now) powers × (length output.old ≡ length packet.now) }
+    ensures verdict { said result ≡ verdict settings.crc settings.check settings.limit packet.now }
+    ensures bytes { output.new ≡ output_for settings.crc settings.check settings.limit packet.now output.old }
 {
-    let v = settle(crc, check, limit, period, pow, firsts, packet);
-    match v {
-        Verdict::Intact => Verdict::Intact,
-        Verdict::Repaired(p) => {
-            mend(packet, p, output);
-            Verdict::Repaired(p)
-        }
-        Verdict::Several(k, p) => Verdict::Several(k, p),
-        Verdict::None => Verdict::None,
+    let v = settle(settings, powers, packet);
+    if let Verdict::Repaired(p) = v {
+        mend(packet, p, output);
     }
+    v
 }
