@@ -2,12 +2,15 @@
 use mathlib.Core.Path.{◌≡◌, refl, sym, ap, ap₂, ◌∙◌}
 use mathlib.Core.Bool.{◌&&◌}
 use mathlib.Core.Logic.{◌↔◌}
-use Prim.Native.Nat.{ℕ, ◌+◌, ◌<◌}
+use Prim.Native.Nat.{ℕ, ◌+◌, ◌<◌, ◌≤◌}
 use native.Mathlib.Omega.{arith}
 use borrow.Author.Tests.{eqb-true, eq-eqb, eqb-false, ne_eqb}
 use Rattle.std.specs.Bool.{IsTrue}
 use borrow.Author.Count.{below_more}
 use lib.Dec.{eqb}
+use lib.ListN.{length, get_or, drop, get_or-append, length-drop, length-append}
+use lib.Seq.{drop-append_seam, drop-drop, get_or-drop}
+use mathlib.Core.List.{List, ◌++◌}
 use lib.Bits.{bit_xor, bit_or, or_add_and, and_le_l, and_le_r, or_zero_l, xor_self}
 use Rattle.base.proofs.Cases.{by_test}
 use Rattle.base.proofs.XorLaws.{xor_zero_equal}
@@ -48,3 +51,22 @@ module _ (P : ℕ → Type 0) where
     (λ t k h. g.0 (eqb-true wrong 0 t) k (omega arith)),
     (λ all. eq-eqb wrong 0 (g.1 (λ k h. all k (omega arith)))),
   )
+
+-- ---- a pair cut off what is left from place i on ----
+
+pub record Cut (l pair rest : List ℕ) (i : ℕ) : Type 0 where
+  pub even : get_or pair 0 0 ≡ get_or l i 0
+  pub odd : get_or pair 1 0 ≡ get_or l (i + 1) 0
+  pub left : rest ≡ drop (i + 2) l
+  pub inside : i + 2 ≤ length l
+
+pub cut : (l pair rest : List ℕ) (i : ℕ) → drop i l ≡ pair ++ rest → length pair ≡ 2 → Cut l pair rest i
+cut l pair rest i e two =
+    let at : (j : ℕ) → j < 2 → get_or pair j 0 ≡ get_or l (i + j) 0 =
+    λ j h. sym (get_or-append pair rest 0 j (omega arith)) ∙ ap (λ (x : List ℕ). get_or x j 0) (sym e) ∙ get_or-drop i l j 0 in
+    record {
+      even = at 0 (omega arith) ∙ ap (λ (x : ℕ). get_or l x 0) (omega arith);
+      odd = at 1 (omega arith);
+      left = sym (drop-append_seam pair rest) ∙ ap₂ (λ (x : ℕ) (y : List ℕ). drop x y) two (sym e) ∙ drop-drop 2 i l;
+      inside = omega (arith, ap length e, length-drop i l, length-append pair rest);
+    }
