@@ -3,12 +3,14 @@
 use mathlib.Core.Path.{◌≡◌, refl, sym, ap, ◌∙◌}
 use mathlib.Core.Bool.{false}
 use mathlib.Core.Logic.{◌↔◌}
-use mathlib.Core.List.{List, [], ◌∷◌, ◌++◌}
-use Prim.Native.Nat.{ℕ, min, zero, suc, ◌+◌, ◌-◌, ◌*◌, ◌/◌, ◌%◌, ◌<◌, ◌≤◌}
+use mathlib.Core.List.{List, [], ◌∷◌}
+use Prim.Native.Nat.{ℕ, zero, suc, ◌+◌, ◌-◌, ◌*◌, ◌/◌, ◌%◌, ◌<◌, ◌≤◌}
 use native.Mathlib.Omega.{arith}
 use borrow.Author.Tests.{lt-ltb, eq-eqb, ne_eqb, ltb-true, eqb-true, eqb-false}
 use lib.Dec.{eqb, ltb}
-use lib.ListN.{length, get_or}
+use lib.ListN.{length, get_or, take, drop, length-drop, drop_of_length-le}
+use lib.Seq.{drop-drop}
+use Rattle.std.proofs.lemmas.List.{take_rest}
 use Rattle.base.proofs.Cases.{by_test}
 use Rattle.packet.specs.Packet.{Bytes}
 use Rattle.checksum.specs.Checksum.{words, folded, sum_from, sum_of, plain, total, reduced}
@@ -48,43 +50,37 @@ folded_lt : (r w : ℕ) → r < 65536 → w < 65536 → folded (r + w) < 65536
 unfolding folded
 folded_lt r w hr hw = omega arith
 
--- bytes cut into their first two, or the only one, and the rest
-pub record Cut (all pair rest : List ℕ) : Type 0 where
-  pub whole : all ≡ pair ++ rest
-  pub size : length pair ≡ min 2 (length all)
-  pub some : 0 < length all
-
--- the word that they begin with, and those after it
-words_cut : (pair rest : List ℕ) → length pair ≡ min 2 (length (pair ++ rest)) → 0 < length (pair ++ rest)
-    → words (pair ++ rest) ≡ (get_or pair 0 0 * 256 + get_or pair 1 0) ∷ words rest
+-- the word that bytes begin with, and those after it
+words_turn : (s : List ℕ) → 0 < length s → words s ≡ (get_or s 0 0 * 256 + get_or s 1 0) ∷ words (drop 2 s)
 unfolding words
-words_cut [] rest e h = absurd (omega arith)
-words_cut (x ∷ []) [] e h = refl
-words_cut (x ∷ []) (y ∷ rest) e h = absurd (omega arith)
-words_cut (x ∷ y ∷ []) rest e h = refl
-words_cut (x ∷ y ∷ z ∷ pair) rest e h = absurd (omega arith)
+words_turn [] h = absurd (omega arith)
+words_turn (x ∷ []) h = refl
+words_turn (x ∷ y ∷ s) h = refl
 
--- one turn of a pass over the words, w being the word that is met
-module _ {all pair rest : List ℕ} {w : ℕ} (c : Cut all pair rest) (word : w ≡ get_or pair 0 0 * 256 + get_or pair 1 0) where
-  words_turn : words all ≡ w ∷ words rest
-  words_turn = rw (c.whole, word) (words_cut pair rest (rw c.whole at c.size) (rw c.whole at c.some))
+-- one turn of a pass over the words, at byte i
+words_at : (s : List ℕ) (i : ℕ) → i < length s
+    → (let rest = take (length s - i) (drop i s) in words (drop i s) ≡ (get_or rest 0 0 * 256 + get_or rest 1 0) ∷ words (drop (i + 2) s))
+words_at s i h =
+    let next : drop 2 (drop i s) ≡ drop (i + 2) s = drop-drop 2 i s in
+    words_turn (drop i s) (omega (arith, length-drop i s)) ∙ rw (← next, take_rest s i) refl
 
-  pub sum_turn : (r : ℕ) → sum_from r (words all) ≡ sum_from (folded (r + w)) (words rest)
-  unfolding sum_from
-  sum_turn r = rw words_turn refl
+pub sum_turn : (r i : ℕ) (s : List ℕ) → i < length s
+    → (let rest = take (length s - i) (drop i s) in
+    sum_from r (words (drop i s)) ≡ sum_from (folded (r + (get_or rest 0 0 * 256 + get_or rest 1 0))) (words (drop (i + 2) s)))
+unfolding sum_from
+sum_turn r i s h = rw (words_at s i h) refl
 
-  pub total_turn : total all ≡ w + total rest
-  unfolding total plain
-  total_turn = rw words_turn refl
+pub total_turn : (i : ℕ) (s : List ℕ) → i < length s
+    → (let rest = take (length s - i) (drop i s) in total (drop i s) ≡ get_or rest 0 0 * 256 + get_or rest 1 0 + total (drop (i + 2) s))
+unfolding total plain
+total_turn i s h = rw (words_at s i h) refl
 
 -- nothing is left past the end
-pub sum_past : (s : List ℕ) (r : ℕ) → length s ≡ 0 → sum_from r (words s) ≡ r
-sum_past [] r h = sum_nil r
-sum_past (x ∷ s) r h = absurd (omega arith)
+pub sum_past : (r i : ℕ) (s : List ℕ) → length s ≤ i → sum_from r (words (drop i s)) ≡ r
+sum_past r i s h = rw (drop_of_length-le s {i = i} h) (sum_nil r)
 
-pub total_past : (s : List ℕ) → length s ≡ 0 → total s ≡ 0
-total_past [] h = total_nil
-total_past (x ∷ s) h = absurd (omega arith)
+pub total_past : (i : ℕ) (s : List ℕ) → length s ≤ i → total (drop i s) ≡ 0
+total_past i s h = rw (drop_of_length-le s {i = i} h) total_nil
 
 pub reduced_zero : reduced 0 ≡ 0
 unfolding reduced

@@ -56,17 +56,18 @@ pub fn word_of(s: &[u8]) -> u16
 fn add_word(sum: u16, word: u16) -> u16
     ensures { result ≡ folded (sum + word) }
 {
-    let t = sum as u32 + word as u32;
-    (t % 65536 + t / 65536) as u16
+    let (t, carry) = sum.overflowing_add(word);
+    t + u16::from(carry)
 }
 
 // The sum of bytes, in one pass over their words.
+#[tactic(auto, using(crate::proofs::SumLaws::sum_start, crate::proofs::SumLaws::sum_turn, crate::proofs::SumLaws::sum_past))]
 pub fn sum(s: &[u8]) -> u16
     ensures { result ≡ sum_call s.now }
 {
     let mut r: u16 = 0;
-    for pair in s.chunks(2) {
-        r = add_word(r, word_of(pair));
+    for i in (0..s.len()).step_by(2) {
+        r = add_word(r, word_of(&s[i..]));
     }
     r
 }

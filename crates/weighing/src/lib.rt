@@ -36,13 +36,14 @@ struct Part<'a> {
 }
 
 // The plain total of the words of bytes, with no carry folded.
+#[tactic(auto, using(checksum::proofs::SumLaws::total_turn, checksum::proofs::SumLaws::total_past))]
 fn total_of(s: &[u8]) -> u64
     requires { length s.now ≤ 512 }
     ensures { result ≡ total s.now }
 {
     let mut t: u64 = 0;
-    for pair in s.chunks(2) {
-        t += word_of(pair) as u64;
+    for i in (0..s.len()).step_by(2) {
+        t += word_of(&s[i..]) as u64;
     }
     t
 }
