@@ -1,24 +1,25 @@
 -- One step of the division by the generator, at any height.
-use mathlib.Core.Path.{◌≡◌, refl, sym, ap, ap₂, ◌∙◌}
+use mathlib.Core.Path.{◌≡◌, sym, ap, ap₂, ◌∙◌}
 use Prim.Native.Nat.{ℕ, suc, ◌+◌, ◌*◌, ◌/◌, ◌%◌, ◌^◌, ◌<◌, ◌≤◌}
 use native.Mathlib.Omega.{arith}
 use native.Mathlib.Nat.{add-zero, mod-lt, div-eq_of_lt, div-lt_iff_lt-mul, le-div_iff_mul-le}
-use lib.Pow.{pow-add, pow_pos, split}
+use lib.Pow.{pow-add, pow_pos, split, shl_exact}
 use lib.Bits.{bit_xor, xor_block, xor_zero_r, xor_comm}
 use lib.Arith.{digits_lt}
 use Rattle.base.proofs.Cases.{by_order}
 use Rattle.poly.specs.Polynomial.{rem, reduce}
 use Rattle.poly.specs.Fit.{Divisor}
+use Rattle.poly.specs.Generators.{greatest_degree}
 use Rattle.poly.proofs.DivisionLaws.{rem-xor, rem_self, rem_shift_zero, reduce_high, reduce_lt}
 use Rattle.remainders.specs.Cancelling.{Cancelled}
 
 -- what does not shift out is at least the power
-pub high_part : (v k : ℕ) → (v / 2 ^ k ≡ 0 → ⊥) → 2 ^ k ≤ v
+high_part : (v k : ℕ) → (v / 2 ^ k ≡ 0 → ⊥) → 2 ^ k ≤ v
 high_part v k h = by_order v (2 ^ k) (λ l. absurd (h (div-eq_of_lt l))) (λ l. l)
 
 module _ (n g : ℕ) (d : Divisor n g) where
   -- the term x^(n + j) is there: v less x^j times g
-  pub cancel_high : (v j : ℕ) → v < 2 ^ (n + suc j) → 2 ^ (n + j) ≤ v → Cancelled n g v j (bit_xor v (g * 2 ^ j))
+  cancel_high : (v j : ℕ) → v < 2 ^ (n + suc j) → 2 ^ (n + j) ≤ v → Cancelled n g v j (bit_xor v (g * 2 ^ j))
   cancel_high v j h l =
       let top : ℕ = v / 2 ^ j in
       let rest_lt : v % 2 ^ j < 2 ^ j = mod-lt v (pow_pos j) in
@@ -40,8 +41,7 @@ module _ (n g : ℕ) (d : Divisor n g) where
         below = rw (sum, powers) (digits_lt (reduce_lt n g d.low d.high top top_lt) rest_lt);
       }
 
--- it is not there, and nothing is taken
-pub cancel_low : (n g v j : ℕ) → v / 2 ^ (n + j) ≡ 0 → Cancelled n g v j v
-cancel_low n g v j h =
-    let k : v < 1 * 2 ^ (n + j) = (div-lt_iff_lt-mul (pow_pos (n + j))).0 (omega (arith, h)) in
-    record { same = refl; below = omega arith }
+  -- the same as the code computes it
+  pub cancel_there : (v j : ℕ) → n ≤ greatest_degree → j < 8 → v < 2 ^ (n + suc j) → (v / 2 ^ (n + j) ≡ 0 → ⊥)
+      → Cancelled n g v j (bit_xor v (g * 2 ^ j % 18446744073709551616))
+  cancel_there v j most small h there = rw (shl_exact (suc n) j 64 d.high (omega arith)) (cancel_high v j h (high_part v (n + j) there))

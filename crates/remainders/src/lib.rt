@@ -18,12 +18,10 @@ fn cancel(g: Generator, v: u64, j: u32) -> u64
     requires { Fit g × ((j < 8) × (v < 2 ^ (g.degree + suc j))) }
     ensures { Cancelled g.degree g.coefficients v j result }
 {
-    let bits = g.coefficients;
-    let degree = g.degree;
-    if v >> (degree + j) == 0 {
+    if v >> (g.degree + j) == 0 {
         v
     } else {
-        v ^ (bits << j)
+        v ^ (g.coefficients << j)
     }
 }
 
