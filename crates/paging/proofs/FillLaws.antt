@@ -1,6 +1,7 @@
 -- A page under way: which patterns are done and which are left, what the output holds, and how it ends.
 use mathlib.Core.Path.{◌≡◌, refl, sym, ap, ◌∙◌}
 use mathlib.Core.List.{List, [], ◌∷◌, ◌++◌, append-nil}
+use Rattle.std.proofs.Common.{Option, Some, None}
 use Prim.Native.Nat.{ℕ, ◌+◌, ◌*◌, ◌-◌, ◌<◌, ◌≤◌}
 use native.Mathlib.Omega.{arith}
 use native.Mathlib.Nat.{sub-zero}
@@ -16,13 +17,11 @@ use Rattle.records.specs.Slices.{RecordPut}
 use Rattle.patterns.specs.declared.Pattern.{Pattern}
 use Rattle.records.proofs.PageLaws.{record_length, records_longer, page_put, fitting_on, fitting_off, fitting_out, next_ended, next_after}
 use Rattle.search.specs.Search.{Told}
-use Rattle.search.specs.declared.Found.{Found}
-use Rattle.search.specs.declared.Found.TheVariants.{At, Nothing}
 use Rattle.cursor.specs.Cursors.{FoundFits, ahead_of}
 use Rattle.cursor.proofs.AheadLaws.{told_ahead_of}
 
 -- `out` is the output at first and `cur` now; `rest` is what the page is about, and `m` the limit
-pub record Filling (l m : ℕ) (xs rest : List (List ℕ)) (out pos cur : List ℕ) (ahead : Found) (last : Pattern) (used written : ℕ) : Type 0 where
+pub record Filling (l m : ℕ) (xs rest : List (List ℕ)) (out pos cur : List ℕ) (ahead : Option ℕ) (last : Pattern) (used written : ℕ) : Type 0 where
   pub done : List (List ℕ)
   pub left : List (List ℕ)
   pub split : rest ≡ done ++ left
@@ -43,7 +42,7 @@ last_snoc p [] q = refl
 last_snoc p (x ∷ xs) q = last_snoc x xs q
 
 -- nothing done yet
-pub filling_none : (l : ℕ) (xs : List (List ℕ)) (out pos : List ℕ) (r : Found) (last : Pattern) → FoundFits l r pos → positions last ≡ []
+pub filling_none : (l : ℕ) (xs : List (List ℕ)) (out pos : List ℕ) (r : Option ℕ) (last : Pattern) → FoundFits l r pos → positions last ≡ []
     → Filling l (length pos) xs (ahead_of before xs r pos) out pos out r last 0 0
 unfolding records last_of
 filling_none l xs out pos r last h e =
@@ -75,25 +74,25 @@ page_done rest done out used written next e u k n =
 bytes_done : (rest done : List (List ℕ)) (out cur : List ℕ) → fitting (length out) rest ≡ done → cur ≡ records done ++ drop (length (records done)) out → cur ≡ page_bytes rest out
 bytes_done rest done out cur e b = b ∙ ap (λ (d : List (List ℕ)). records d ++ drop (length (records d)) out) (sym e)
 
-module _ {l m : ℕ} {xs rest : List (List ℕ)} {out pos cur : List ℕ} {ahead : Found} {last : Pattern} {used written : ℕ}
+module _ {l m : ℕ} {xs rest : List (List ℕ)} {out pos cur : List ℕ} {ahead : Option ℕ} {last : Pattern} {used written : ℕ}
     (f : Filling l m xs rest out pos cur ahead last used written) where
   -- nothing is left: the page is ended
-  all_done : ahead ≡ Nothing → fitting (length out) rest ≡ f.done
+  all_done : ahead ≡ None → fitting (length out) rest ≡ f.done
   all_done e =
       let none : f.left ≡ [] = rw e at f.told in
       fitting_out (length out) f.done (fitting (length out) rest) (rw none at f.fits)
 
-  pub filled_page : ahead ≡ Nothing → ◌≡◌ {A = Page} (record { used = used; written = written; next = ended }) (page_of rest (length out))
+  pub filled_page : ahead ≡ None → ◌≡◌ {A = Page} (record { used = used; written = written; next = ended }) (page_of rest (length out))
   filled_page e =
       let none : f.left ≡ [] = rw e at f.told in
       let whole : rest ≡ f.done = f.split ∙ ap (λ (t : List (List ℕ)). f.done ++ t) none ∙ append-nil f.done in
       page_done rest f.done out used written ended (all_done e) f.taken f.count (next_ended rest f.done (ap length (sym whole)))
 
-  pub filled_bytes : ahead ≡ Nothing → cur ≡ page_bytes rest out
+  pub filled_bytes : ahead ≡ None → cur ≡ page_bytes rest out
   filled_bytes e = bytes_done rest f.done out cur (all_done e) f.content
 
-  module _ {k : ℕ} (e : ahead ≡ At k) where
-    found : Told before l m xs f.left (At k) pos
+  module _ {k : ℕ} (e : ahead ≡ Some k) where
+    found : Told before l m xs f.left (Some k) pos
     found = rw e at f.told
 
     pub found_within : (k ≤ length pos) × Ascending l 0 (take k pos)
@@ -122,7 +121,7 @@ module _ {l m : ℕ} {xs rest : List (List ℕ)} {out pos cur : List ℕ} {ahead
 
     -- one pattern more
     pub filling_more : 1 + 2 * k ≤ length out - used → m ≤ most_positions → (q : Pattern) → positions q ≡ take most_positions (take k pos)
-        → (next : ℕ) (cur' pos' : List ℕ) → RecordPut (take k pos) cur used cur' next → (r : Found) → Told before l m xs (sift (before (take k pos)) xs) r pos'
+        → (next : ℕ) (cur' pos' : List ℕ) → RecordPut (take k pos) cur used cur' next → (r : Option ℕ) → Told before l m xs (sift (before (take k pos)) xs) r pos'
         → length pos' ≡ m → length cur' ≡ length out → Filling l m xs rest out pos' cur' r q next (written + 1)
     filling_more h four q named next cur' pos' put r t p c =
         let d : List (List ℕ) = f.done in

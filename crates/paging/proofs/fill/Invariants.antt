@@ -10,9 +10,8 @@ use Rattle.paging.proofs.fill.Given as goal
 
 abbrev pub invariant-loop-ahead : goal.invariant-loop-ahead
 invariant-loop-ahead l =
-    Filling (length l.pow) (length l.initial.pos) (listed_by l.cursor (length l.pow) (length l.initial.pos)) (ahead_of before (listed_by l.cursor (length l.pow) (length l.initial.pos)) l.initial.ahead l.initial.pos)
-    l.initial.output l.pos l.output l.ahead l.last l.used l.written
+    Filling (length l.cursor.powers.powers.now) (length l.initial.pos) (listed_by l.cursor (length l.initial.pos))
+    (ahead_of before (listed_by l.cursor (length l.initial.pos)) l.initial.ahead l.initial.pos) l.initial.output l.pos l.output l.ahead l.last l.used l.written
 
 abbrev pub decreases-loop-ahead : goal.decreases-loop-ahead
-decreases-loop-ahead l =
-    length l.initial.output - l.used
+decreases-loop-ahead l = length l.initial.output - l.used
