@@ -46,6 +46,7 @@ pub fn prepare<'a>(g: Generator, bits: usize, tables: Tables<'a>, room: &'a mut 
 }
 
 // The first set that is met.
+#[tactic(auto, using(crate::proofs::LookupLaws::odd_ones))]
 pub fn meet_first(cursor: Cursor, pos: &mut [u16]) -> Option<usize>
     requires { Prepared cursor }
     ensures { FirstMet cursor.entry (length pos.old) result pos.new }
@@ -55,6 +56,7 @@ pub fn meet_first(cursor: Cursor, pos: &mut [u16]) -> Option<usize>
 }
 
 // The first set that is met after the one in front of `pos`, which need not be met itself.
+#[tactic(auto, using(crate::proofs::LookupLaws::odd_ones))]
 pub fn meet_next(cursor: Cursor, pos: &mut [u16], count: usize) -> Option<usize>
     requires { Prepared cursor × InFront (length cursor.powers.powers.now) count pos.old }
     ensures { NextMet cursor.entry (length pos.old) (take count pos.old) result pos.new }

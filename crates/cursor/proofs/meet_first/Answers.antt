@@ -1,11 +1,8 @@
 -- `meet_first` is the search from the start, for the powers of the generator.
 use Rattle.std.proofs.Common.{ℕ, List, length}
 use Rattle.tables.specs.Tables.{power}
-use Rattle.cursor.proofs.LookupLaws.{told_walk, odd_ones}
+use Rattle.cursor.proofs.LookupLaws.{told_walk}
 use Rattle.cursor.proofs.meet_first.Goals as goal
-
-pub search_first-requires : goal.search_first-requires
-search_first-requires c = (c.requires.ready, odd_ones c.requires)
 
 pub returns : goal.returns
 returns c =

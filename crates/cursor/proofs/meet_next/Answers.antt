@@ -3,13 +3,8 @@ use Rattle.std.proofs.Common.{ℕ, List, length, take}
 use Rattle.tables.specs.Tables.{power}
 use Rattle.patterns.specs.Listing.{sift}
 use Rattle.patterns.specs.Walk.{by_positions}
-use Rattle.cursor.proofs.LookupLaws.{told_walk, odd_ones}
+use Rattle.cursor.proofs.LookupLaws.{told_walk}
 use Rattle.cursor.proofs.meet_next.Goals as goal
-
-pub search_next-requires : goal.search_next-requires
-search_next-requires c =
-    let p = c.requires in
-    (p.0.ready, p.1.0, p.1.1, odd_ones p.0)
 
 pub returns : goal.returns
 returns c =
