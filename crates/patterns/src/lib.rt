@@ -205,8 +205,7 @@ pub fn unfit_mark(m: Mark, l: usize, limit: usize) -> bool
     ensures { result ≡ unfit_mark l limit (point_of m) }
 {
     match m {
-        Mark::Start => false,
-        Mark::Ended => false,
+        Mark::Start | Mark::Ended => false,
         Mark::After(p) => unfit_pattern(p, l, limit),
     }
 }

@@ -156,10 +156,6 @@ module _ {P : List ℕ → Bool} {l m : ℕ} {xs rest : List (List ℕ)} {pos : 
             bound = omega (arith, f.bound, ap length found.0.split);
           }
 
-    -- what is left grows less
-    pub tally_falls : (r : Option ℕ) (pos' : List ℕ) → Told by_positions l m xs (sift (by_positions (take k pos)) xs) r pos' → length (ahead_of by_positions xs r pos') < length (ahead_of by_positions xs ahead pos)
-    tally_falls r pos' told = rw (e, ← told_ahead by_positions l m xs (sift (by_positions (take k pos)) xs) r pos' told) (omega arith)
-
 -- a search from the start leads the whole walk
 pub started : (l m : ℕ) (xs : List (List ℕ)) (r : Option ℕ) (pos : List ℕ) → Told by_positions l m xs xs r pos → ahead_of by_positions xs r pos ≡ xs
 started l m xs r pos h = sym (told_ahead by_positions l m xs xs r pos h)

@@ -4,7 +4,6 @@ use mathlib.Core.Path.{◌≡◌, refl, ap}
 use mathlib.Core.List.{List, [], ◌∷◌}
 use Prim.Native.Nat.{ℕ, zero, suc, ◌+◌, ◌-◌, ◌*◌, ◌/◌, ◌%◌, ◌^◌, ◌<◌, ◌≤◌}
 use native.Mathlib.Omega.{arith}
-use native.Mathlib.Nat.{mul-le-mul}
 use lib.Bits.{bit_xor}
 use lib.ListN.{length, get_or, drop}
 use native.Mathlib.Numerals.{add-one}
@@ -101,7 +100,3 @@ module _ (a e : ℕ) (s ps : List ℕ) (i : ℕ) (h : i < length ps) where
 
   pub set_turn : set_weight a e s (drop i ps) ≡ bit_at s (get_or ps i 0) * weight a e s (get_or ps i 0) + set_weight a e s (drop (i + 1) ps)
   set_turn = rw (add-one, drop-cons ps i 0 h) (set_weight_cons a e s (get_or ps i 0) (drop (suc i) ps))
-
--- a digit's multiple
-pub digit_multiple : (b w m : ℕ) → b ≤ 1 → w ≤ m → b * w ≤ m
-digit_multiple b w m h k = omega (arith, mul-le-mul {n₁ = b} {m₁ = w} {n₂ = 1} {m₂ = m} h k)
