@@ -20,5 +20,6 @@ bounds-output-column c =
 pub loop-row-preserved : goal.loop-row-preserved
 loop-row-preserved c =
     let a = c.args in
-    let byte = stored_byte a.rows a.columns a.input.now c.loop-row.row a.column c.loop-row-test.true c.requires.1 refl refl in
-    part_more c.loop-row.invariant (to_inside a.input.now c.loop-row-test.true c.requires.1) (sym byte) (omega arith)
+    part_more c.loop-row.invariant (to_inside a.input.now c.loop-row-test.true c.requires.1)
+    (sym (stored_byte a.rows a.columns a.input.now c.loop-row.row a.column c.loop-row-test.true c.requires.1 refl (omega (arith, mul_comm a.columns c.loop-row.row))))
+    (omega arith)
