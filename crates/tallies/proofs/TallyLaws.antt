@@ -41,9 +41,9 @@ placed_first p (Some a) b e n (y ∷ ys) h k =
     let here : positions a ≡ y = cc in
     rw (rw here at (b a refl)) (record { number = omega (arith, h); first = ap Some e })
 
-pub earliest-more : (p : List ℕ) {t : Tally} {q : Pattern} → ((a : Pattern) → t.earliest ≡ Some a → before p (positions a) ≡ true) → positions q ≡ p
-    → (kept : List (List ℕ)) → Tallied (in_order before kept) t → Tallied (in_order before (kept ++ p ∷ [])) (record { count = t.count + 1; earliest = Some q })
-earliest-more p {t} b e kept h = grown p kept (placed_first p t.earliest b e t.count (in_order before kept) h.number h.first)
+pub earliest-more : (p : List ℕ) {t : Tally} {n : ℕ} {q : Pattern} → n ≡ t.count + 1 → ((a : Pattern) → t.earliest ≡ Some a → before p (positions a) ≡ true) → positions q ≡ p
+    → (kept : List (List ℕ)) → Tallied (in_order before kept) t → Tallied (in_order before (kept ++ p ∷ [])) (record { count = n; earliest = Some q })
+earliest-more p {t} c b e kept h = rw c (grown p kept (placed_first p t.earliest b e t.count (in_order before kept) h.number h.first))
 
 -- it stands behind the first
 stays_first : (p y : List ℕ) (ys : List (List ℕ)) → before p y ≡ false → first_of (inserted before p (y ∷ ys)) ≡ Some y
@@ -60,10 +60,10 @@ placed_behind p a b n (y ∷ ys) new h k =
       first = k ∙ sym (stays_first p y ys (rw here at b));
     }
 
-pub later-more : (p : List ℕ) {t : Tally} {a : Pattern} → t.earliest ≡ Some a → before p (positions a) ≡ false → (kept : List (List ℕ)) → (In p kept → ⊥)
-    → Tallied (in_order before kept) t → Tallied (in_order before (kept ++ p ∷ [])) (record { count = t.count + 1; earliest = Some a })
-later-more p {t} {a} e b kept new h =
-    grown p kept (placed_behind p a b t.count (in_order before kept) (λ i. new (in_order_in before_strict_total kept i)) h.number (ap (option_map positions) (sym e) ∙ h.first))
+pub later-more : (p : List ℕ) {t : Tally} {n : ℕ} {a : Pattern} → n ≡ t.count + 1 → t.earliest ≡ Some a → before p (positions a) ≡ false → (kept : List (List ℕ)) → (In p kept → ⊥)
+    → Tallied (in_order before kept) t → Tallied (in_order before (kept ++ p ∷ [])) (record { count = n; earliest = Some a })
+later-more p {t} {a = a} c e b kept new h =
+    rw c (grown p kept (placed_behind p a b t.count (in_order before kept) (λ i. new (in_order_in before_strict_total kept i)) h.number (ap (option_map positions) (sym e) ∙ h.first)))
 
 -- ---- the whole list
 

@@ -1,5 +1,6 @@
 -- `and` puts one candidate more in its place: behind the earliest, or in front of all.
 use mathlib.Core.Path.{◌≡◌, sym, ◌∙◌}
+use native.Mathlib.Omega.{arith}
 use lib.Seq.{take_all}
 use Rattle.patterns.specs.Patterns.{most_positions}
 use Rattle.tallies.proofs.TallyLaws.{earliest-more, later-more}
@@ -7,11 +8,11 @@ use Rattle.tallies.proofs.Tally.and.Goals as goal
 use Rattle.tallies.proofs.Tally.and.Goals.{in_default-via-in-Some+else-not-is_before, in_default-via-in_default}
 
 pub returns-in-Some : goal.returns-in-Some
-returns-in-Some c = later-more c.args.pos.now c.in-Some.is (sym c.is_before.ensures ∙ c.if-not-is_before.true)
+returns-in-Some c = later-more c.args.pos.now (omega arith) c.in-Some.is (sym c.is_before.ensures ∙ c.if-not-is_before.true)
 
 pub returns-in_default : goal.returns-in_default
 returns-in_default c kept new h =
-    earliest-more c.args.pos.now (elim c.in_default.branch [
+    earliest-more c.args.pos.now (omega arith) (elim c.in_default.branch [
       | in_default-via-in-Some+else-not-is_before w ↦ λ a e.
           let same : w.in-Some.p ≡ a = cc in
           rw (← same) (sym w.is_before.ensures ∙ w.if-not-is_before.false)
