@@ -48,10 +48,7 @@ pub fn fill_crc(packet: &mut [u8], crc: Crc)
 pub fn judge_packet(numbers: CrcNumbers, len: usize) -> Result<(), Refusal>
     ensures { outcome result ≡ judged (packet_conditions (crc_of numbers.generator numbers.init numbers.xorout) (8 * len)) }
 {
-    if poly::unfit_generator(numbers.generator) {
-        return Err(Refusal::Generator);
-    }
-    let g = Generator::of(numbers.generator);
+    let g = Generator::new(numbers.generator)?;
     if packet::unfit_bytes(g, len) {
         return Err(Refusal::Length);
     }

@@ -5,3 +5,4 @@ pub mod ParityLaws
 pub mod BackLaws
 pub mod DegreeLaws
 pub mod GeneratorLaws
+pub mod NewLaws

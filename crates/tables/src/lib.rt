@@ -20,7 +20,7 @@ use base::Refusal;
 pub use lent::Tables;
 use poly::Generator;
 
-// The entry of a remainder that no power of x leaves.
+// The entry of a remainder that no power of x leaves: a number, since callers keep the tables as numbers.
 pub const ABSENT: u16 = 65535;
 
 fn fill_steps(g: Generator, steps: &mut [u16])
@@ -88,10 +88,8 @@ fn build(g: Generator, steps: &mut [u16], firsts: &mut [u16]) -> u64
 fn judge_tables(generator: u64, steps: usize, firsts: usize) -> Result<(), Refusal>
     ensures { outcome result ≡ judged (tables_conditions generator steps firsts) }
 {
-    if poly::unfit_generator(generator) {
-        return Err(Refusal::Generator);
-    }
-    if unfit_tables(Generator::of(generator), steps, firsts) {
+    let g = Generator::new(generator)?;
+    if unfit_tables(g, steps, firsts) {
         return Err(Refusal::TableLength);
     }
     Ok(())
