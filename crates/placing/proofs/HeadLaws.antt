@@ -90,10 +90,10 @@ module _ (power : ℕ → ℕ) where
       rw choose_zero (by_test (eqb 0 u) (λ e. rw e) (λ e. rw e))
 
   -- no room, with whatever list of no positions
-  pub first_from_empty : (l from u : ℕ) (xs : List ℕ) → length xs ≡ 0 → first_from power l (length xs) from u ≡ answer (eqb u 0) xs
+  pub first_from_empty : (l from u : ℕ) (xs : List ℕ) → length xs ≡ 0 → answer (eqb u 0) xs ≡ first_from power l (length xs) from u
   first_from_empty l from u [] h =
-      let swapped : eqb 0 u ≡ eqb u 0 = by_test (eqb u 0) (λ e. rw (e, eq-eqb 0 u (sym (eqb-true u 0 e)))) (λ e. rw (e, ne_eqb 0 u (λ z. eqb-false u 0 e (sym z)))) in
-      first_from_zero l from u ∙ ap (λ (r : Bool). answer r []) swapped
+      let swapped : eqb u 0 ≡ eqb 0 u = by_test (eqb u 0) (λ e. rw (e, eq-eqb 0 u (sym (eqb-true u 0 e)))) (λ e. rw (e, ne_eqb 0 u (λ z. eqb-false u 0 e (sym z)))) in
+      ap (λ (r : Bool). answer r []) swapped ∙ sym (first_from_zero l from u)
   first_from_empty l from u (x ∷ xs) h = absurd (omega arith)
 
   pub first_from_past : (l k from u : ℕ) → l ≤ from → first_from power l (suc k) from u ≡ headless

@@ -90,37 +90,28 @@ impl<'a> Powers<'a> {
         false
     }
 
-    // Places at most two positions.
-    fn few(self, lo: usize, u: usize, pos: &mut [u16]) -> bool
-        requires { ReadyFor self lo u × (length pos.old ≤ 2) }
-        ensures { Placed self.entry (length pos.old) lo u result pos.new }
-    {
-        if pos.len() == 2 {
-            return self.pair(lo, u, pos);
-        }
-        if pos.len() == 1 {
-            return self.single(lo, u, pos);
-        }
-        u == 0
-    }
-
     // Places as many positions as `pos` has room for: the first goes through the positions, and the others are placed
     // behind it.
+    #[tactic(auto, using(crate::proofs::HeadLaws::first_from_empty))]
     pub fn place(self, lo: usize, u: usize, pos: &mut [u16]) -> bool
         requires { ReadyFor self lo u }
         ensures { Placed self.entry (length pos.old) lo u result pos.new }
     {
-        if pos.len() <= 2 {
-            return self.few(lo, u, pos);
-        }
-        for a in lo..self.powers.len() {
-            let v = u ^ (self.powers[a] as usize);
-            if self.place(a + 1, v, &mut pos[1..]) {
-                pos[0] = a as u16;
-                return true;
+        match pos.len() {
+            0 => u == 0,
+            1 => self.single(lo, u, pos),
+            2 => self.pair(lo, u, pos),
+            _ => {
+                for a in lo..self.powers.len() {
+                    let v = u ^ (self.powers[a] as usize);
+                    if self.place(a + 1, v, &mut pos[1..]) {
+                        pos[0] = a as u16;
+                        return true;
+                    }
+                }
+                false
             }
         }
-        false
     }
 
     // Goes on from two positions. It is `resume` for two, and spelt out since a repair does it for each set.
@@ -140,19 +131,19 @@ impl<'a> Powers<'a> {
 
     // Goes on from the positions in `pos`, which need not have the sum `u`: to the first set of as many positions that
     // comes after them.
-    #[tactic(auto, using(crate::proofs::TailLaws::head_below))]
+    #[tactic(auto, using(crate::proofs::TailLaws::head_below, crate::proofs::HeadLaws::first_after_empty))]
     pub fn resume(self, u: usize, pos: &mut [u16]) -> bool
         requires { ReadyFor self 0 u × Ascending (length self.powers.now) 0 pos.old }
         ensures { Resumed self.entry u pos.old result pos.new }
     {
-        if pos.len() == 0 {
-            return false;
+        match pos.len() {
+            0 => false,
+            2 => self.resume_pair(u, pos),
+            _ => {
+                let p = pos[0] as usize;
+                let v = u ^ (self.powers[p] as usize);
+                self.resume(v, &mut pos[1..]) || self.place(p + 1, u, pos)
+            }
         }
-        if pos.len() == 2 {
-            return self.resume_pair(u, pos);
-        }
-        let p = pos[0] as usize;
-        let v = u ^ (self.powers[p] as usize);
-        self.resume(v, &mut pos[1..]) || self.place(p + 1, u, pos)
     }
 }

@@ -26,8 +26,8 @@ loop-a-preserved t c power l =
     i.invariant power l
     ∙ place_miss l i.a c.args.u (length c.args.pos.now) i.pos p.new.pos p.result (omega arith) (omega arith) (omega arith) _ (omega arith) (p.ensures power l) c.if-place.false
 
-pub returns : goal.returns
-returns t c power l =
+pub returns-after-loop-a : goal.returns-after-loop-a
+returns-after-loop-a t c power l =
     let n = length c.args.pos.now in
     let i = c.loop-a in
     let e : n ≡ suc (n - 1) = omega arith in

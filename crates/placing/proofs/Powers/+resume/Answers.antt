@@ -1,13 +1,9 @@
 -- `resume` finds the first set of as many positions that comes after the given one. It ends since each call has one
 -- position less to go on from.
-use Rattle.std.proofs.Common.{length, get_or, sym, ◌∙◌, arith}
-use Rattle.placing.proofs.HeadLaws.{first_after_empty}
+use Rattle.std.proofs.Common.{get_or, ◌∙◌, arith}
 use Rattle.placing.proofs.NearestLaws.{ready_next}
 use Rattle.placing.proofs.TailLaws.{tail_length, head_below, tail_ascends, resume_hit, resume_miss}
 use Rattle.placing.proofs.Powers.+resume.Goals as goal
-
-pub returns-then-pos-eq0 : goal.returns-then-pos-eq0
-returns-then-pos-eq0 t c power l = sym (first_after_empty power (length c.args.self.powers.now) c.args.u c.args.pos.now (omega arith))
 
 pub resume-requires : goal.resume-requires
 resume-requires t c =
