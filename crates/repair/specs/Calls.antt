@@ -2,17 +2,16 @@
 use Rattle.std.specs.Prelude.{ℕ, ◌≡◌, Bool, not, ◌&&◌, List, [], ◌∷◌, eqb, ltb, length}
 use Rattle.std.specs.Borrow.{Bor}
 use Rattle.base.specs.Outcome.{Outcome, refused, accepted, Condition, when, judge}
-use Rattle.base.specs.Refusals.{number}
 use Rattle.poly.specs.Generators.{unfit}
-use Rattle.packet.specs.Packet.{bits, unfit_length, unfit_values}
+use Rattle.packet.specs.Packet.{bits, unfit_length, unfit_values, crc_of}
+use Rattle.packet.specs.declared.CrcNumbers.{CrcNumbers}
 use Rattle.packet.specs.declared.Crc.{Crc}
 use Rattle.tables.specs.Tables.{unfit_tables, wrong_tables}
+use Rattle.tables.specs.declared.lent.Tables.{Tables}
 use Rattle.checksum.specs.Checksum.{unfit_range, unfit_field}
 use Rattle.checksum.specs.declared.Check.{Check}
 use Rattle.patterns.specs.Listing.{unfit_limit}
-use Rattle.verdicts.specs.Verdicts.{Said, intact, repaired, several, nothing, said, verdict, output_for}
-use Rattle.repair.specs.declared.RepairAnswer.{RepairAnswer}
-use Rattle.repair.specs.declared.RepairAnswer.TheVariants.{Decided, Refused}
+use Rattle.verdicts.specs.Verdicts.{Said, intact, repaired, several, nothing, verdict, output_for}
 
 -- what a repair call is given
 pub record Repair : Type 0 where
@@ -36,6 +35,10 @@ repair_request crc check limit steps firsts packet output =
       output = output;
     }
 
+-- the same of the numbers of a CRC and tables that are lent
+abbrev pub requested_by : CrcNumbers → Check → ℕ → Tables → List ℕ → List ℕ → Repair
+requested_by n check limit t packet output = repair_request (crc_of n.generator n.init n.xorout) check limit t.steps.now t.firsts.now packet output
+
 -- condition 8 of a repair: an output that is not as long as the packet
 unfoldable pub unfit_copy : ℕ → ℕ → Bool
 unfit_copy room long = not (eqb room long)
@@ -58,10 +61,6 @@ repair_conditions r =
     ∷ when 9 (unfit_range g.degree (bits r.packet) r.check)
     ∷ when 10 (unfit_check_field r.check)
     ∷ []
-
-abbrev pub repair_answer : RepairAnswer → Outcome Said
-repair_answer (Decided v) = accepted (said v)
-repair_answer (Refused q) = refused (number q)
 
 -- the answer
 abbrev pub repair_call : Repair → Outcome Said

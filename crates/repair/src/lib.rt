@@ -2,181 +2,114 @@
 #![tactic(auto)]
 
 ghost use Rattle.std.specs.Prelude.{◌≡◌, ◌*◌, ◌≤◌, length};
-ghost use Rattle.base.specs.Judged.{judgement, judged};
+ghost use Rattle.base.specs.Answers.{answered, outcome};
+ghost use Rattle.base.specs.Judged.{judged};
 ghost use Rattle.packet.specs.Packet.{bits, crc_of};
 ghost use Rattle.cursor.specs.Cursors.{RightTables};
 ghost use Rattle.verdicts.specs.Verdicts.{said, verdict, output_for};
 ghost use Rattle.verdicts.specs.Settling.{Settleable};
 ghost use Rattle.repair.specs.Settings.{setting_conditions};
 ghost use Rattle.repair.specs.Calls.{
-  repair_request,
+  requested_by,
   unfit_check_field,
   repair_conditions,
-  repair_answer,
   repair_call,
   repair_output,
   handed_back,
   HandedItself,
 };
 
-use base::{Judgement, Refusal};
+use base::Refusal;
 use checksum::Check;
-use packet::{Crc, MOST_BITS};
+use packet::{Crc, CrcNumbers, MOST_BITS};
 use poly::Generator;
-use verdicts::Verdict;
-
-#[derive(Clone, Copy)]
-pub enum RepairAnswer {
-    Decided(Verdict),
-    Refused(Refusal),
-}
+use tables::Tables;
+use verdicts::{Settings, Verdict};
 
 // Condition 10 of a repair, for any numbers.
+#[tactic(auto, unfolding(crate::specs::Calls::unfit_check_field))]
 fn unfit_check_field(check: Check) -> bool
     ensures { result ≡ unfit_check_field check }
 {
-    let from = check.from;
-    let to = check.to;
-    if to <= from {
-        return false;
-    }
-    checksum::unfit_field(check)
+    check.from < check.to && checksum::unfit_field(check)
 }
 
 // The conditions on CRC, length, limit and tables, in their order; a repair begins with these.
 #[tactic(auto, using(tables::proofs::TableLaws::not_wrong))]
 pub fn judge_settings(
-    generator: u64,
-    init: u64,
-    xorout: u64,
+    numbers: CrcNumbers,
     limit: usize,
-    steps: &[u16],
-    firsts: &[u16],
+    tables: Tables,
     len: usize,
-) -> Judgement
-    ensures { judgement result ≡ judged (setting_conditions (crc_of generator init xorout) limit steps.now firsts.now (8 * len)) }
+) -> Result<(), Refusal>
+    ensures { outcome result ≡ judged (setting_conditions (crc_of numbers.generator numbers.init numbers.xorout) limit tables.entry.steps.now tables.entry.firsts.now (8 * len)) }
 {
-    let judged = crc::judge_packet(generator, init, xorout, len);
-    if let Judgement::Refused(r) = judged {
-        return Judgement::Refused(r);
-    }
-    let g = Generator::of(generator);
+    crc::judge_packet(numbers, len)?;
+    let g = Generator::of(numbers.generator);
     if patterns::unfit_limit(limit) {
-        return Judgement::Refused(Refusal::Limit);
+        return Err(Refusal::Limit);
     }
-    if tables::unfit_tables(g, steps.len(), firsts.len()) {
-        return Judgement::Refused(Refusal::TableLength);
+    if tables::unfit_tables(g, tables.steps.len(), tables.firsts.len()) {
+        return Err(Refusal::TableLength);
     }
-    if !verifying::verify(g, steps, firsts) {
-        return Judgement::Refused(Refusal::TableEntry);
+    if !verifying::verify(g, tables) {
+        return Err(Refusal::TableEntry);
     }
-    Judgement::Passed
+    Ok(())
 }
 
 // The conditions of a repair, in their order.
 #[tactic(auto, using(crate::proofs::ConditionLaws::copy_unfit, crate::proofs::ConditionLaws::copy_fit))]
 fn judge_repair(
-    generator: u64,
-    init: u64,
-    xorout: u64,
+    numbers: CrcNumbers,
     check: Check,
     limit: usize,
-    steps: &[u16],
-    firsts: &[u16],
+    tables: Tables,
     packet: &[u8],
     output: &[u8],
-) -> Judgement
-    ensures { judgement result ≡ judged (repair_conditions (repair_request (crc_of generator init xorout) check limit steps.now firsts.now packet.now output.now)) }
+) -> Result<(), Refusal>
+    ensures { outcome result ≡ judged (repair_conditions (requested_by numbers check limit tables.entry packet.now output.now)) }
 {
-    let judged = judge_settings(generator, init, xorout, limit, steps, firsts, packet.len());
-    if let Judgement::Refused(r) = judged {
-        return Judgement::Refused(r);
-    }
-    let g = Generator::of(generator);
+    judge_settings(numbers, limit, tables, packet.len())?;
     if output.len() != packet.len() {
-        return Judgement::Refused(Refusal::Output);
+        return Err(Refusal::Output);
     }
-    if checksum::unfit_range(g, packet.len(), check) {
-        return Judgement::Refused(Refusal::Range);
+    if checksum::unfit_range(Generator::of(numbers.generator), packet.len(), check) {
+        return Err(Refusal::Range);
     }
     if unfit_check_field(check) {
-        return Judgement::Refused(Refusal::Field);
+        return Err(Refusal::Field);
     }
-    Judgement::Passed
+    Ok(())
 }
 
-// The verdict by tables that are right: `pow` has room for a power at each bit.
-fn repair_in(
-    crc: Crc,
-    check: Check,
-    limit: usize,
-    steps: &[u16],
-    firsts: &[u16],
-    pow: &mut [u32],
-    packet: &[u8],
-    output: &mut [u8],
-) -> Verdict
-    requires { Settleable crc check limit packet.now × RightTables crc.generator steps.now firsts.now × (length output.old ≡ length packet.now) × (bits packet.now ≤ length pow.old) }
-    ensures verdict { said result ≡ verdict crc check limit packet.now }
-    ensures bytes { output.new ≡ output_for crc check limit packet.now output.old }
+// The verdict by tables that are right, and the repair where there is one.
+fn repair_by(settings: Settings, tables: Tables, packet: &[u8], output: &mut [u8]) -> Verdict
+    requires { Settleable settings.crc settings.check settings.limit packet.now × RightTables settings.crc.generator tables.steps.now tables.firsts.now × (length output.old ≡ length packet.now) }
+    ensures verdict { said result ≡ verdict settings.crc settings.check settings.limit packet.now }
+    ensures bytes { output.new ≡ output_for settings.crc settings.check settings.limit packet.now output.old }
 {
-    let long = 8 * packet.len();
-    let g = crc.generator;
-    let period = cursor::prepare(g, long, steps, firsts, pow);
-    verdicts::conclude(
-        crc,
-        check,
-        limit,
-        period,
-        &pow[..long],
-        firsts,
-        packet,
-        output,
-    )
-}
-
-fn repair_by(
-    crc: Crc,
-    check: Check,
-    limit: usize,
-    steps: &[u16],
-    firsts: &[u16],
-    packet: &[u8],
-    output: &mut [u8],
-) -> Verdict
-    requires { Settleable crc check limit packet.now × RightTables crc.generator steps.now firsts.now × (length output.old ≡ length packet.now) }
-    ensures verdict { said result ≡ verdict crc check limit packet.now }
-    ensures bytes { output.new ≡ output_for crc check limit packet.now output.old }
-{
-    let mut pow = [0u32; MOST_BITS];
-    repair_in(crc, check, limit, steps, firsts, &mut pow, packet, output)
+    let mut room = [0u32; MOST_BITS];
+    let powers = cursor::prepare(settings.crc.generator, 8 * packet.len(), tables, &mut room);
+    verdicts::conclude(settings, powers, packet, output)
 }
 
 // The verdict on a received packet, and its repair where there is one.
 pub fn repair(
-    generator: u64,
-    init: u64,
-    xorout: u64,
+    numbers: CrcNumbers,
     check: Check,
     limit: usize,
-    steps: &[u16],
-    firsts: &[u16],
+    tables: Tables,
     packet: &[u8],
     output: &mut [u8],
-) -> RepairAnswer
-    ensures answer { repair_answer result ≡ repair_call (repair_request (crc_of generator init xorout) check limit steps.now firsts.now packet.now output.old) }
-    ensures bytes { output.new ≡ repair_output (repair_request (crc_of generator init xorout) check limit steps.now firsts.now packet.now output.old) }
+) -> Result<Verdict, Refusal>
+    ensures answer { answered said result ≡ repair_call (requested_by numbers check limit tables.entry packet.now output.old) }
+    ensures bytes { output.new ≡ repair_output (requested_by numbers check limit tables.entry packet.now output.old) }
 {
-    let judged = judge_repair(
-        generator, init, xorout, check, limit, steps, firsts, packet, output,
-    );
-    match judged {
-        Judgement::Refused(r) => RepairAnswer::Refused(r),
-        Judgement::Passed => {
-            let crc = packet::crc_of(generator, init, xorout);
-            RepairAnswer::Decided(repair_by(crc, check, limit, steps, firsts, packet, output))
-        }
-    }
+    judge_repair(numbers, check, limit, tables, packet, output)?;
+    let crc = Crc::from(numbers);
+    let settings = Settings { crc, check, limit };
+    Ok(repair_by(settings, tables, packet, output))
 }
 
 // The packet to publish from: what was received, its repaired copy, or an empty part of what was received.

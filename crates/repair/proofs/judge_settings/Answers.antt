@@ -10,14 +10,14 @@ use Rattle.repair.proofs.judge_settings.Goals as goal
 
 pub unfit_tables-requires : goal.unfit_tables-requires
 unfit_tables-requires c =
-    let a = c.args in
-    let clear = none_applies (packet_conditions (crc_of a.generator a.init a.xorout) (8 * a.len)) c.judge_packet-judged.ensures c.in_default.is in
-    made_fit a.generator refl (clear 1) c.of-g.ensures
+    let n = c.args.numbers in
+    let clear = none_applies (packet_conditions (crc_of n.generator n.init n.xorout) (8 * c.args.len)) c.judge_packet.ensures c.in_ok-judge_packet.was in
+    made_fit n.generator refl (clear 1) c.of-g.ensures
 
 pub verify-requires : goal.verify-requires
 verify-requires c =
-    let a = c.args in
-    let clear = none_applies (packet_conditions (crc_of a.generator a.init a.xorout) (8 * a.len)) c.judge_packet-judged.ensures c.in_default.is in
-    let fit = made_fit a.generator refl (clear 1) c.of-g.ensures in
+    let n = c.args.numbers in
+    let clear = none_applies (packet_conditions (crc_of n.generator n.init n.xorout) (8 * c.args.len)) c.judge_packet.ensures c.in_ok-judge_packet.was in
+    let fit = made_fit n.generator refl (clear 1) c.of-g.ensures in
     let full = fit_lengths _ _ _ (sym c.unfit_tables.ensures ∙ c.if-unfit_tables.false) in
     (record { fit = fit; full = full.0 }, record { fit = fit; full = full.1 })
