@@ -41,6 +41,7 @@ pub fn check_of(from: usize, to: usize, field: usize) -> Check
 }
 
 // The word that bytes begin with, high byte first. One byte alone gets a zero byte behind it, and no bytes are 0.
+// Words are gone through by this and `step_by(2)`, in the sum and in weighing's total: no shorter with the step as a closure.
 pub fn word_of(s: &[u8]) -> u16
     ensures { result ≡ get_or s.now 0 0 * 256 + get_or s.now 1 0 }
 {

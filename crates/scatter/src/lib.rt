@@ -83,6 +83,7 @@ fn read_columns(rows: usize, columns: usize, input: &[u8], output: &mut [u8])
 }
 
 // Writes bytes into a block by rows and reads them by columns.
+// A shape goes as two numbers and no struct, here and within: the way back is the two exchanged.
 pub fn scatter(rows: usize, columns: usize, input: &[u8], output: &mut [u8]) -> Result<(), Refusal>
     ensures answer { outcome result ≡ block_call rows columns input.now output.old }
     ensures output { output.new ≡ scatter_output rows columns input.now output.old }
