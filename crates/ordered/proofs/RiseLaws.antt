@@ -1,10 +1,10 @@
 -- Count by count in the list's order: the sets of one count, those of the counts above it, and what follows a set.
-use mathlib.Core.Path.{◌≡◌, sym, ◌∙◌}
+use mathlib.Core.Path.{◌≡◌, refl, sym, ◌∙◌}
 use mathlib.Core.Bool.{Bool, true, false}
 use mathlib.Core.Logic.{◌⊎◌, inl, inr}
 use mathlib.Core.List.{List, [], ◌++◌}
 use Rattle.std.proofs.Common.{Option, Some, None}
-use Prim.Native.Nat.{ℕ, ◌+◌, ◌<◌, ◌≤◌}
+use Prim.Native.Nat.{ℕ, ◌+◌, ◌≤◌}
 use native.Mathlib.Omega.{arith}
 use lib.ListN.{length, take, drop}
 use lib.Seq.{length-take-le, take_at}
@@ -14,7 +14,7 @@ use Rattle.patterns.specs.StrictOrder.{Foremost}
 use Rattle.patterns.proofs.OrderLaws.{before_strict_total, fewer_before}
 use Rattle.patterns.proofs.SortedLaws.{never_both}
 use Rattle.placing.specs.Placing.{Lookup}
-use Rattle.search.specs.Search.{OddOnes, ruled_out}
+use Rattle.search.specs.Search.{OddOnes, ruled_out, Missed, FirstHit, Risen}
 use Rattle.search.proofs.ParityLaws.{none_placed}
 use Rattle.spans.specs.Spans.{Finds, Summing, Behind}
 use Rattle.spans.proofs.FindLaws.{finds_in_first, finds_in_second, first_finds}
@@ -36,28 +36,33 @@ found_by f (Some k) pos h = f true (take k pos) h
 found_by f None pos h = f false [] h
 
 module _ (power : ℕ → ℕ) (l most u : ℕ) where
-  -- ---- one count, and those above it ----
+  in_among : {least k : ℕ} {x : List ℕ} → least ≤ k → k ≤ most → Summing power l k 0 u x → Among power l least most u x
+  in_among from to m = record { ascends = m.ascends; enough = omega (arith, m.counts); within = omega (arith, m.counts); sums = m.sums }
 
-  among_split : (k : ℕ) (x : List ℕ) → Among power l k most u x → Summing power l k 0 u x ⊎ Among power l (k + 1) most u x
-  among_split k x m =
-      by_equal (length x) k (λ e. inl (record { ascends = m.ascends; counts = e; sums = m.sums }))
-      (λ e. inr (record { ascends = m.ascends; enough = omega (arith, m.enough); within = m.within; sums = m.sums }))
+  of_count : {least : ℕ} {x : List ℕ} → Among power l least most u x → Summing power l (length x) 0 u x
+  of_count m = record { ascends = m.ascends; counts = refl; sums = m.sums }
 
-  pub rise_hit : (k : ℕ) → k ≤ most → (x : List ℕ) → Foremost before (Summing power l k 0 u) x → Foremost before (Among power l k most u) x
-  rise_hit k h x e =
-      finds_in_first before (Among power l k most u) (Summing power l k 0 u) (Among power l (k + 1) most u) x
-      (λ b m. record { ascends = m.ascends; enough = omega (arith, m.counts); within = omega (arith, m.counts); sums = m.sums }) (among_split k)
-      (λ b c m n. fewer_before b c (omega (arith, m.counts, n.enough))) e
+  -- ---- what a rise found, where each step tells of the sets of one count ----
 
-  pub rise_miss : (k : ℕ) → ((x : List ℕ) → Summing power l k 0 u x → ⊥) → (r : Option ℕ) (x : List ℕ) → FindsAt before (Among power l (k + 1) most u) r x → FindsAt before (Among power l k most u) r x
-  rise_miss k none =
-      found_by
-      (λ r x.
-      finds_in_second before (Among power l k most u) (Summing power l k 0 u) (Among power l (k + 1) most u) r x
-      (λ b m. record { ascends = m.ascends; enough = omega (arith, m.enough); within = m.within; sums = m.sums }) (among_split k) none)
+  module _ {S : List ℕ → Bool → List ℕ → Type 0} (told : (xs : List ℕ) (r : Bool) (ys : List ℕ) → S xs r ys → Finds before (Summing power l (length xs) 0 u) r ys) where
+    missed : (j : ℕ) → Missed S j → (x : List ℕ) → Summing power l j 0 u x → ⊥
+    missed j (xs, ys, e, m) = rw e at (told xs false ys m)
 
-  pub rise_past : (k : ℕ) → most < k → (x : List ℕ) → Among power l k most u x → ⊥
-  rise_past k h x m = omega (arith, m.enough, m.within)
+    first_among : (least : ℕ) (r : Option ℕ) (pos : List ℕ) → FirstHit S least most r pos → FindsAt before (Among power l least most u) r pos
+    first_among least (Some k) pos (from, to, (xs, n, hit), below) =
+        let f : Foremost before (Summing power l k 0 u) (take k pos) = rw n at (told xs true (take k pos) hit) in
+        record {
+          meets = in_among from to f.meets;
+          others_after = λ x m ne.
+              by_order (length x) k (λ lt. absurd (missed (length x) (below (length x) m.enough lt) x (of_count m)))
+              (λ ge.
+              by_equal (length x) k (λ e. f.others_after x (rw e at (of_count m)) ne)
+              (λ e. fewer_before (take k pos) x (omega (arith, f.meets.counts))));
+        }
+    first_among least None pos none = λ x m. missed (length x) (none (length x) m.enough m.within) x (of_count m)
+
+    pub risen_among : {least : ℕ} {r : Option ℕ} {pos : List ℕ} → Risen S least most r pos → FindsAt before (Among power l least most u) r pos
+    risen_among {least} {r} {pos} f = first_among least r pos f.first
 
   -- ---- after a set q: more of its count, and then the counts above it ----
 

@@ -27,20 +27,6 @@ fn next_or_skip(generator: u64, powers: Powers, u: usize, pos: &mut [u16]) -> bo
     !search::ruled_out(generator, pos.len(), u) && widening::next_of_count(powers, u, pos)
 }
 
-// Rises through the counts from `count` to the length of `pos`.
-fn rise(generator: u64, powers: Powers, count: usize, u: usize, pos: &mut [u16]) -> Option<usize>
-    requires { ReadyFor powers 0 u × OddOnes generator powers.powers.now }
-    ensures counted { CountWithin (length pos.old) result }
-    ensures first { FirstAmong powers.entry count (length pos.old) u result pos.new }
-{
-    for k in count..=pos.len() {
-        if first_or_skip(generator, powers, u, &mut pos[..k]) {
-            return Some(k);
-        }
-    }
-    None
-}
-
 // The first set of at most as many positions as `pos` has room for: its count, and its positions in front.
 pub fn order_first(
     generator: u64,
@@ -52,7 +38,8 @@ pub fn order_first(
     ensures counted { CountWithin (length pos.old) result }
     ensures first { FirstAmong powers.entry 0 (length pos.old) syndrome result pos.new }
 {
-    rise(generator, powers, 0, syndrome, pos)
+    let step = |front: &mut [u16]| first_or_skip(generator, powers, syndrome, front);
+    search::rise(0, pos, step)
 }
 
 // The first that follows the set in front of `pos`, which need not have the sum.
@@ -70,5 +57,6 @@ pub fn order_next(
     if next_or_skip(generator, powers, syndrome, &mut pos[..count]) {
         return Some(count);
     }
-    rise(generator, powers, count + 1, syndrome, pos)
+    let step = |front: &mut [u16]| first_or_skip(generator, powers, syndrome, front);
+    search::rise(count + 1, pos, step)
 }

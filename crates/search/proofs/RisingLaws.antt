@@ -3,11 +3,12 @@
 use mathlib.Core.Path.{◌≡◌, refl, sym, ap, ap₂, ◌∙◌}
 use mathlib.Core.Bool.{Bool, true, false}
 use mathlib.Core.List.{List, [], ◌∷◌, ◌++◌, append_assoc, append-nil}
+use Rattle.std.proofs.Common.{Option, Some, None}
+use Rattle.base.proofs.Cases.{by_order}
 use Prim.Native.Nat.{ℕ, zero, suc, ◌+◌, ◌-◌, ◌<◌, ◌≤◌}
 use native.Mathlib.Omega.{arith}
 use lib.Dec.{eqb}
-use lib.ListN.{length, take, drop}
-use lib.Seq.{length-take-le, take_at}
+use lib.ListN.{length, take}
 use Rattle.base.specs.Lists.{In, here}
 use Rattle.patterns.specs.Order.{lower}
 use Rattle.patterns.specs.Walk.{by_positions}
@@ -19,7 +20,7 @@ use Rattle.patterns.proofs.SiftLaws.{sift-append, sift_all, sift_none, sift-same
 use Rattle.patterns.proofs.SortedLaws.{not_back, sorted_behind, sorted_next}
 use Rattle.patterns.proofs.ListingLaws.{choose_in, up_to_in, sifted_in}
 use Rattle.placing.specs.Placing.{xor_all, summing, Head, headless, starts, head_of, first_from, first_after, answer}
-use Rattle.search.specs.Search.{walked, rising, FoundFirst}
+use Rattle.search.specs.Search.{walked, rising, found, CountWithin, FoundFirst, Missed, FirstHit, Risen}
 use Rattle.placing.proofs.HeadLaws.{or_else, head_append, head_nil, summing-append, summing-sift, summing_nil, first_from_whole}
 
 pub rising_none : (l k : ℕ) → rising l k zero ≡ []
@@ -153,29 +154,38 @@ module _ (power : ℕ → ℕ) (l n s : ℕ) where
       ∙ head_append (summing power s (choose l k zero)) (summing power s (rising l (suc k) m))
       ∙ ap (λ (h : Head). or_else h (head_of (summing power s (rising l (suc k) m)))) (sym (first_from_whole power l k s))
 
-  -- past the last count
-  pub rise_none : (k : ℕ) → n < k → head_of (summing power s (rising l k (n + 1 - k))) ≡ headless
-  rise_none k h =
-      let e : n + 1 - k ≡ 0 = omega arith in
-      ap (λ (m : ℕ). head_of (summing power s (rising l k m))) e
-      ∙ ap (λ (xs : List (List ℕ)). head_of (summing power s xs)) (rising_none l k) ∙ ap head_of (summing_nil power s) ∙ head_nil
+  pub rise_none : (k : ℕ) → head_of (summing power s (rising l k zero)) ≡ headless
+  rise_none k = ap (λ (xs : List (List ℕ)). head_of (summing power s xs)) (rising_none l k) ∙ ap head_of (summing_nil power s) ∙ head_nil
 
--- one count tried, in a slice xs of n positions whose first k the level below was lent
-module _ (power : ℕ → ℕ) (l s n k : ℕ) (xs ys : List ℕ) (r : Bool) (room : k ≤ n) (whole : length xs ≡ n)
-    (same : length ys ≡ length (take k xs)) (told : answer r ys ≡ first_from power l (length (take k xs)) 0 s) where
-  rise_turn : head_of (summing power s (rising l k (n + 1 - k))) ≡ or_else (answer r ys) (head_of (summing power s (rising l (k + 1) (n + 1 - (k + 1)))))
-  rise_turn =
-      let e : n + 1 - k ≡ suc (n - k) = omega arith in
-      let f : n - k ≡ n + 1 - (k + 1) = omega arith in
-      let g : suc k ≡ k + 1 = omega arith in
-      ap (λ (m : ℕ). head_of (summing power s (rising l k m))) e
-      ∙ rise_step power l n s k (n - k)
-      ∙ ap₂ or_else
-      (ap (λ (m : ℕ). first_from power l m 0 s) (sym (length-take-le k xs (omega arith))) ∙ sym told)
-      (ap₂ (λ (a b : ℕ). head_of (summing power s (rising l a b))) g f)
+pub risen_within : {S : List ℕ → Bool → List ℕ → Type 0} {least most : ℕ} {r : Option ℕ} {pos : List ℕ} → Risen S least most r pos → CountWithin most r
+risen_within {S} {least} {most} {r} {pos} f = go r f.first
+  where
+    go : (r : Option ℕ) → FirstHit S least most r pos → CountWithin most r
+    go (Some k) (from, to, hit, below) = to
+    go None none = tt
 
-  pub rise_hit : r ≡ true → starts (take k (ys ++ drop k xs)) ≡ head_of (summing power s (rising l k (n + 1 - k)))
-  rise_hit e = ap starts (take_at ys (drop k xs) k (same ∙ length-take-le k xs (omega arith))) ∙ sym (rise_turn ∙ rw e)
+-- what a rise found, where each step tells of the sets of one count
+module _ (power : ℕ → ℕ) (l s : ℕ) {S : List ℕ → Bool → List ℕ → Type 0}
+    (told : (xs : List ℕ) (r : Bool) (ys : List ℕ) → S xs r ys → answer r ys ≡ first_from power l (length xs) 0 s) where
+  rise_on : (least m : ℕ) → Missed S least → head_of (summing power s (rising l least (suc m))) ≡ head_of (summing power s (rising l (suc least) m))
+  rise_on least m (xs, ys, e, t) =
+      let none : first_from power l least 0 s ≡ headless = sym (rw e at (told xs false ys t)) in
+      rise_step power l 0 s least m ∙ rw none
 
-  pub rise_miss : r ≡ false → head_of (summing power s (rising l k (n + 1 - k))) ≡ head_of (summing power s (rising l (k + 1) (n + 1 - (k + 1))))
-  rise_miss e = rise_turn ∙ rw e
+  first_found : (least most m : ℕ) → least + m ≡ most + 1 → (r : Option ℕ) (pos : List ℕ) → FirstHit S least most r pos
+      → found r pos ≡ head_of (summing power s (rising l least m))
+  first_found least most zero e (Some k) pos (from, to, hit, below) = absurd (omega arith)
+  first_found least most zero e None pos none = sym (rise_none power l 0 s least)
+  first_found least most (suc m) e (Some k) pos (from, to, (xs, n, hit), below) =
+      by_order least k
+      (λ lt. first_found (suc least) most m (omega arith) (Some k) pos (omega arith, to, (xs, n, hit), λ j a b. below j (omega arith) b) ∙ sym (rise_on least m (below least (omega arith) lt)))
+      (λ ge.
+      let z : length xs ≡ least = omega arith in
+      let q : starts (take k pos) ≡ first_from power l least 0 s = rw z at (told xs true (take k pos) hit) in
+      sym (rise_step power l 0 s least m ∙ rw (← q)))
+  first_found least most (suc m) e None pos none =
+      first_found (suc least) most m (omega arith) None pos (λ j a b. none j (omega arith) b) ∙ sym (rise_on least m (none least (omega arith) (omega arith)))
+
+  pub risen_found : {least most : ℕ} {r : Option ℕ} {pos : List ℕ} → Risen S least most r pos → least ≤ most + 1
+      → CountWithin most r × (found r pos ≡ head_of (summing power s (rising l least (most + 1 - least))))
+  risen_found {least} {most} {r} {pos} f h = (risen_within f, first_found least most (most + 1 - least) (omega arith) r pos f.first)

@@ -1,12 +1,14 @@
 -- What a search goes through and what it answers, over any powers: the sets of at most so many positions whose powers have a given
 -- sum, count by count, and the first of them.
-use Rattle.std.specs.Prelude.{ℕ, zero, suc, ◌%◌, ◌≤◌, ◌<◌, ◌≡◌, Bool, not, ◌&&◌, List, [], ◌∷◌, ◌++◌, Option, Some, None, eqb, length, get_or, take}
+use Rattle.std.specs.Prelude.{ℕ, zero, suc, ◌%◌, ◌≤◌, ◌<◌, ◌≡◌, Bool, true, false, not, ◌&&◌, List, [], ◌∷◌, ◌++◌, Option, Some, None, eqb, length, get_or, take}
 use Rattle.std.specs.Int.Count.{ones}
 use Rattle.base.specs.Lists.{Ascending}
 use Rattle.patterns.specs.Listing.{choose, up_to, sift}
 use Rattle.patterns.specs.Walk.{by_positions}
 use Rattle.placing.specs.Placing.{summing, Head, headless, starts, Describes}
 use Rattle.placing.specs.declared.Powers.{Powers}
+use denote.Ref.{MutBor}
+use denote.Param.Members.{Shared}
 
 -- what a walk meets: the sets of at most so many positions below l whose powers have the sum s
 unfoldable pub walked : (ℕ → ℕ) → ℕ → ℕ → ℕ → List (List ℕ)
@@ -56,3 +58,23 @@ abbrev pub NextTold : Powers → ℕ → ℕ → List ℕ → Option ℕ → Lis
 NextTold t s limit p r pos =
     (power : ℕ → ℕ) → Describes power t
     → Told by_positions (length t.powers.now) limit (walked power (length t.powers.now) limit s) (sift (by_positions p) (walked power (length t.powers.now) limit s)) r pos
+
+-- a call of f at a `&mut` to xs may give r and leave ys
+pub record Steps {F : Type 0} (g : Shared F (MutBor (List ℕ) × Unit {0}) (Bool × (MutBor (List ℕ) × Unit {0}))) (f : F) (xs : List ℕ) (r : Bool) (ys : List ℕ) : Type 0 where
+  pub shown : MutBor (List ℕ)
+  pub shows : shown.now ≡ xs
+  pub left : MutBor (List ℕ)
+  pub met : g.post f (shown, tt) (r, (left, tt))
+  pub leaves : left.now ≡ ys
+
+-- a step found nothing in some slice of k positions
+abbrev pub Missed : (List ℕ → Bool → List ℕ → Type 0) → ℕ → Type 0
+Missed S k = (xs ys : List ℕ) × (length xs ≡ k) × S xs false ys
+
+-- from the count `least` on and up to `most`: the first count at which a step found something, with what it left in front; or nothing
+abbrev pub FirstHit : (List ℕ → Bool → List ℕ → Type 0) → ℕ → ℕ → Option ℕ → List ℕ → Type 0
+FirstHit S least most (Some k) pos = (least ≤ k) × (k ≤ most) × ((xs : List ℕ) × (length xs ≡ k) × S xs true (take k pos)) × ((j : ℕ) → least ≤ j → j < k → Missed S j)
+FirstHit S least most None pos = (j : ℕ) → least ≤ j → j ≤ most → Missed S j
+
+pub record Risen (S : List ℕ → Bool → List ℕ → Type 0) (least most : ℕ) (r : Option ℕ) (pos : List ℕ) : Type 0 where
+  pub first : FirstHit S least most r pos

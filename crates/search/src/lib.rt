@@ -12,6 +12,8 @@ ghost use Rattle.search.specs.Search.{
   found,
   NextTold,
   OddOnes,
+  Risen,
+  Steps,
   rising,
   ruled_out,
 };
@@ -44,14 +46,13 @@ fn resume_or_skip(generator: u64, powers: Powers, u: usize, pos: &mut [u16]) -> 
     !ruled_out(generator, pos.len(), u) && powers.resume(u, pos)
 }
 
-// Rises through the counts from `count` to the length of `pos`.
-fn rise(generator: u64, powers: Powers, count: usize, u: usize, pos: &mut [u16]) -> Option<usize>
-    requires { ReadyFor powers 0 u × (count ≤ length pos.old + 1) × OddOnes generator powers.powers.now }
-    ensures counted { CountWithin (length pos.old) result }
-    ensures first { (power : ℕ → ℕ) → Describes power powers.entry → found result pos.new ≡ head_of (summing power u (rising (length powers.entry.powers.now) count (length pos.old + 1 - count))) }
+// Rises through the counts from `count` to the length of `pos`: `step` looks for a set of as many positions as it is lent room for.
+pub fn rise<F: Fn(&mut [u16]) -> bool>(count: usize, pos: &mut [u16], step: F) -> Option<usize>
+    requires { F.IsAlwaysCallable step }
+    ensures { Risen (Steps F.Fn step) count (length pos.old) result pos.new }
 {
     for k in count..=pos.len() {
-        if place_or_skip(generator, powers, u, &mut pos[..k]) {
+        if step(&mut pos[..k]) {
             return Some(k);
         }
     }
@@ -68,7 +69,8 @@ pub fn search_first(
     requires { ReadyFor powers 0 syndrome × OddOnes generator powers.powers.now }
     ensures { FirstTold powers.entry syndrome (length pos.old) result pos.new }
 {
-    rise(generator, powers, 0, syndrome, pos)
+    let step = |front: &mut [u16]| place_or_skip(generator, powers, syndrome, front);
+    rise(0, pos, step)
 }
 
 // The first that is met after the one in front of `pos`, which need not be met itself.
@@ -85,5 +87,6 @@ pub fn search_next(
     if resume_or_skip(generator, powers, syndrome, &mut pos[..count]) {
         return Some(count);
     }
-    rise(generator, powers, count + 1, syndrome, pos)
+    let step = |front: &mut [u16]| place_or_skip(generator, powers, syndrome, front);
+    rise(count + 1, pos, step)
 }

@@ -2,13 +2,15 @@
 use mathlib.Core.List.{List}
 use Prim.Native.Nat.{ℕ}
 use native.Mathlib.Omega.{arith}
+use borrow.Author.Rules.{rules}
 use lib.ListN.{length, take}
 use lib.Seq.{length-take-le, length_front}
 use Rattle.patterns.specs.Order.{before}
 use Rattle.patterns.specs.StrictOrder.{Foremost}
 use Rattle.spans.specs.Spans.{Summing, Behind}
 use Rattle.ordered.specs.Ordered.{Among}
-use Rattle.ordered.proofs.RiseLaws.{later_hit, later_miss, found_front}
+use Rattle.search.proofs.RisingLaws.{risen_within}
+use Rattle.ordered.proofs.RiseLaws.{later_hit, later_miss, found_front, risen_among}
 use Rattle.ordered.proofs.order_next.Goals as goal
 
 pub returns-then-next_or_skip-clause-next : goal.returns-then-next_or_skip-clause-next
@@ -23,14 +25,18 @@ returns-then-next_or_skip-clause-next c power t =
     found_front (Behind (Among power l 0 n c.args.syndrome) q) c.args.count c.args.pos.now ys c.requires.1 p.auto.pos
     (later_hit power l n c.args.syndrome q c.args.count e c.requires.1 ys hit)
 
-pub returns-clause-next : goal.returns-clause-next
-returns-clause-next c power t =
+pub returns : goal.returns
+returns c =
     let p = c.next_or_skip in
-    let m = c.rise in
     let q : List ℕ = take c.args.count c.args.pos.now in
     let l : ℕ = length c.args.powers.powers.now in
     let n : ℕ = length c.args.pos.now in
     let e = length-take-le c.args.count c.args.pos.now c.requires.1 in
-    let none : (y : List ℕ) → Behind (Summing power l c.args.count 0 c.args.syndrome) q y → ⊥ = rw (c.if-next_or_skip.false, e) at (p.ensures power t) in
-    later_miss power l n c.args.syndrome q c.args.count e c.requires.1 none _ (omega arith) m.result m.new.pos
-    (rw (length_front c.args.pos.now p.new.pos c.args.count p.auto.pos) at (m.ensures.first power t))
+    let w = length_front c.args.pos.now p.new.pos c.args.count p.auto.pos in
+    record {
+      counted = rw w at (risen_within c.rise.ensures);
+      next = λ power t.
+          let none : (y : List ℕ) → Behind (Summing power l c.args.count 0 c.args.syndrome) q y → ⊥ = rw (c.if-next_or_skip.false, e) at (p.ensures power t) in
+          later_miss power l n c.args.syndrome q c.args.count e c.requires.1 none _ (omega arith) c.rise.result c.rise.new.pos
+          (rw w at (risen_among power l _ c.args.syndrome (λ xs r ys k. rw (← k.shows, ← k.leaves) (search rules)) c.rise.ensures));
+    }

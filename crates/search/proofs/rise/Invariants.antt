@@ -1,10 +1,7 @@
--- `rise` finds the first set of the counts from `count` on. The loop's invariant: the counts below `k` have none.
-use Rattle.std.proofs.Common.{◌≡◌, ℕ, ◌+◌, ◌-◌, length}
-use Rattle.placing.specs.Placing.{head_of, summing, Describes}
-use Rattle.search.specs.Search.{rising}
+-- `rise` ends at the first count at which the step finds something. The loop's invariant: it found nothing at the counts below `k`.
+use Rattle.std.proofs.Common.{ℕ, ◌<◌, ◌≤◌}
+use Rattle.search.specs.Search.{Missed, Steps}
 use Rattle.search.proofs.rise.Given as goal
 
 abbrev pub invariant-loop-k : goal.invariant-loop-k
-invariant-loop-k l =
-    (power : ℕ → ℕ) → Describes power l.powers
-    → head_of (summing power l.u (rising (length l.powers.powers.now) l.count (length l.initial.pos + 1 - l.count))) ≡ head_of (summing power l.u (rising (length l.powers.powers.now) l.k (length l.initial.pos + 1 - l.k)))
+invariant-loop-k g l = (j : ℕ) → l.count ≤ j → j < l.k → Missed (Steps g.F.Fn l.step) j
