@@ -4,31 +4,35 @@
 
 ghost use Rattle.std.specs.Prelude.{◌≡◌, ◌<◌, ◌≤◌, length, IfOk, OnOk, OnErr, IfSome};
 ghost use Rattle.std.specs.Io.KnownBytes.{Appends};
-ghost use Rattle.lister.specs.Turns.{longest_line, printed, text_due, Sound, entries_for, most_entries, Tabled, HasRoom};
+ghost use Rattle.lister.specs.Turns.{longest_line, printed, text_due, Sound, entries_for, Tabled, HasRoom};
 ghost use Rattle.streams.specs.Streams.{ReadSome, WroteSome};
 ghost use Rattle.list.specs.Moved.{Listed, ListedSome};
 
 use lister::{Due, MOST_ENTRIES, Turn};
 use std::io;
 use std::io::{Read, Write};
+use tables::Tables;
+
+// The bytes of a page, and of its text.
+const PAGE_BYTES: usize = 16384;
+
+const TEXT_BYTES: usize = 4 * PAGE_BYTES;
 
 // Prints what is due, turn by turn.
 fn print_due<W: Write>(
     out: &mut W,
     due: Due,
-    steps: &[u16],
-    firsts: &[u16],
+    tables: Tables,
     page: &mut [u8],
     text: &mut [u8],
 ) -> io::Result<()>
-    requires { Sound due × Tabled due steps.now firsts.now × HasRoom page.old text.old }
+    requires { Sound due × Tabled due tables.steps.now tables.firsts.now × HasRoom page.old text.old }
     ensures ok { OnOk result (Appends (W.contents out.old) (W.contents out.new) (text_due due)) }
     ensures err { OnErr result (WroteSome (W.contents out.old) (W.contents out.new) (text_due due)) }
 {
     let mut next = due;
     loop {
-        let turn = lister::write_next(next, steps, firsts, page, text);
-        match turn {
+        match lister::write_next(next, tables, page, text) {
             Turn::Last(n) => return streams::write_all(out, &text[..n]),
             Turn::More(n, rest) => {
                 streams::write_all(out, &text[..n])?;
@@ -38,21 +42,7 @@ fn print_due<W: Write>(
     }
 }
 
-// Room for a page, whose text fits into the room for it.
-fn page_room() -> [u8; 16384]
-    ensures { 16384 ≡ length result }
-{
-    [0; 16384]
-}
-
-// Room for the text of a page.
-fn text_room() -> [u8; 65536]
-    ensures { 65536 ≡ length result }
-{
-    [0; 65536]
-}
-
-// The same with tables that are first built.
+// The same with tables that are first built, of just the entries that are needed.
 fn print_by<W: Write>(
     out: &mut W,
     due: Due,
@@ -64,31 +54,9 @@ fn print_by<W: Write>(
     ensures err { OnErr result (WroteSome (W.contents out.old) (W.contents out.new) (text_due due)) }
 {
     lister::build(due, steps, firsts);
-    let mut page = page_room();
-    let mut text = text_room();
-    print_due(out, due, steps, firsts, &mut page, &mut text)
-}
-
-// The same with tables in the first `size` entries.
-fn print_in<W: Write>(
-    out: &mut W,
-    due: Due,
-    size: usize,
-    steps: &mut [u16],
-    firsts: &mut [u16],
-) -> io::Result<()>
-    requires { Sound due × (size ≡ entries_for due) × (size ≤ length steps.old) × (size ≤ length firsts.old) }
-    ensures ok { OnOk result (Appends (W.contents out.old) (W.contents out.new) (text_due due)) }
-    ensures err { OnErr result (WroteSome (W.contents out.old) (W.contents out.new) (text_due due)) }
-{
-    print_by(out, due, &mut steps[..size], &mut firsts[..size])
-}
-
-// Room for a table of the greatest degree that is listed.
-fn table() -> [u16; MOST_ENTRIES]
-    ensures { most_entries ≡ length result }
-{
-    [0; MOST_ENTRIES]
+    let mut page = [0u8; PAGE_BYTES];
+    let mut text = [0u8; TEXT_BYTES];
+    print_due(out, due, Tables { steps, firsts }, &mut page, &mut text)
 }
 
 // Reads the input until it ends or the buffer is full, and judges it.
@@ -110,9 +78,9 @@ fn list<R: Read, W: Write>(input: &mut R, out: &mut W) -> io::Result<()>
     let mut line = [0u8; 64];
     let due = read_input(input, &mut line)?;
     let size = lister::entries(due);
-    let mut steps = table();
-    let mut firsts = table();
-    print_in(out, due, size, &mut steps, &mut firsts)
+    let mut steps = [0u16; MOST_ENTRIES];
+    let mut firsts = [0u16; MOST_ENTRIES];
+    print_by(out, due, &mut steps[..size], &mut firsts[..size])
 }
 
 fn main(rt: HostRuntime) -> io::Result<()> {

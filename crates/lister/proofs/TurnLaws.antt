@@ -7,9 +7,7 @@ use Prim.Native.Nat.{ℕ, ◌+◌, ◌^◌, ◌<◌, ◌≤◌}
 use native.Mathlib.Omega.{arith}
 use borrow.Author.Tests.{lt-ltb}
 use lib.ListN.{length, take, drop, take-append-drop, length-drop}
-use Rattle.base.specs.Outcome.{Outcome, refused, accepted}
-use Rattle.base.specs.Refusals.{number}
-use Rattle.base.specs.declared.Refusal.{Refusal}
+use Rattle.base.specs.Outcome.{refused, accepted}
 use Rattle.base.proofs.Cases.{by_test, by_order}
 use Rattle.base.proofs.JudgeLaws.{applied, judge_clear, refused_not_accepted}
 use Rattle.poly.specs.Polynomial.{degree}
@@ -26,18 +24,13 @@ use Rattle.patterns.proofs.CountLaws.{listing_fits}
 use Rattle.records.proofs.RecordLaws.{patterns_records}
 use Rattle.pages.specs.Conditions.{Request}
 use Rattle.pages.specs.Sequences.{Lending, request_with}
-use Rattle.paging.specs.Results.{page_result}
-use Rattle.paging.specs.declared.PageResult.{PageResult}
-use Rattle.pages.specs.Calls.{page_answer, page_call, page_left}
-use Rattle.pages.specs.declared.PageAnswer.{PageAnswer}
-use Rattle.pages.specs.declared.PageAnswer.TheVariants.{Paged, Refused}
-use Rattle.pages.proofs.PageTheorem.{page_accepts, page_holds, page_within, page_keeps, page_next, page_goes_on, page_mark_fits}
+use Rattle.paging.specs.declared.Request.{Request as Query}
+use Rattle.pages.specs.Calls.{page_call, page_left}
+use Rattle.pages.proofs.PageTheorem.{page_accepts, page_holds, page_next, page_goes_on, page_mark_fits}
 use Rattle.lines.specs.Text.{text_of, end_line}
 use Rattle.lines.proofs.RecordLaws.{text_append}
 use Rattle.lister.specs.Printed.{unfit_listed, list_conditions, Prints}
-use Rattle.lister.specs.Turns.{WasRead, printed, ahead, text_due, turns_for, NotEnded, Going, Sound, Turned, Run, last, more}
-use Rattle.lister.specs.declared.Settings.{Settings}
-use Rattle.lister.specs.declared.Turn.{Turn}
+use Rattle.lister.specs.Turns.{WasRead, printed, ahead, text_due, turns_for, NotEnded, Going, Sound, Run, last, more}
 use Rattle.lister.specs.declared.Due.{Due}
 use Rattle.lister.specs.declared.Due.TheVariants.{Listing}
 use Rattle.patterns.specs.declared.Mark.{Mark}
@@ -52,17 +45,10 @@ listed_fit g e =
     (λ u. (u, by_order 14 (degree g) (λ h. absurd (true≢false (rw (u, lt-ltb 14 (degree g) h) at e))) (λ h. h)))
 
 -- what is due, by its case
-pub sound_listing : {due : Due} {s : Settings} {m : Mark} {count : ℕ} → due ≡ Listing s m count → Sound due → Going s (point_of m) count
+pub sound_listing : {due : Due} {s : Query} {m : Mark} {count : ℕ} → due ≡ Listing s m count → Sound due → Going s (point_of m) count
 sound_listing e h = rw e at h
 
--- what a page call answered, by its case
-pub paged : {r : PageAnswer} {q : PageResult} {x : Outcome Page} → page_answer r ≡ x → r ≡ Paged q → x ≡ accepted (page_result q)
-paged e f = sym e ∙ ap page_answer f
-
-pub page_turned_down : {r : PageAnswer} {q : Refusal} {x : Outcome Page} → page_answer r ≡ x → r ≡ Refused q → x ≡ refused (number q)
-page_turned_down e f = sym e ∙ ap page_answer f
-
-module _ {s : Settings} {m : Point} {count : ℕ} (going : Going s m count) where
+module _ {s : Query} {m : Point} {count : ℕ} (going : Going s m count) where
   -- none of the program's conditions applies
   pub going_clear : (k : ℕ) → applied k (list_conditions s.generator s.bits s.limit s.syndrome) ≡ false
   going_clear = judge_clear (list_conditions s.generator s.bits s.limit s.syndrome) tt tt going.clear
@@ -110,9 +96,6 @@ module _ {s : Settings} {m : Point} {count : ℕ} (going : Going s m count) wher
                 (omega (arith, fit_limit s.limit (going_clear 3))),
           )
 
-      pub turn_within : p.used ≤ length (page_left request m)
-      turn_within = omega (arith, page_within request m p e, (page_keeps request m p e).1)
-
       -- the count and the mark go on together
       pub turn_going : (total : ℕ) → total ≡ count + p.written → Going s p.next total
       turn_going total sum =
@@ -147,10 +130,6 @@ module _ {s : Settings} {m : Point} {count : ℕ} (going : Going s m count) wher
           rw (whole, first, rest)
           (ap (λ (t : List ℕ). t ++ end_line (count + length xs)) split
           ∙ append_assoc (text_of (take w xs)) (text_of (drop w xs)) (end_line (count + length xs)))
-
--- what a turn did, by its case
-pub turned_as : (due : Due) (steps firsts text : List ℕ) {r q : Turn} → r ≡ q → Turned due steps firsts text r → Turned due steps firsts text q
-turned_as due steps firsts text e h = rw e at h
 
 -- the texts of a run of turns, joined, are what was due
 pub run_prints : {steps firsts : List ℕ} {due : Due} {text : List ℕ} → Run steps firsts due text → text ≡ text_due due

@@ -28,7 +28,7 @@ pub returns-in_err-due-clause-err : goal.returns-in_err-due-clause-err
 returns-in_err-due-clause-err g c = on_err c.from_residual.result (none_listed (g.R.Read.remaining c.args.input.now) (g.W.Write.contents c.args.out.now))
 
 pub returns-clause-ok : goal.returns-clause-ok
-returns-clause-ok g c = listed _ _ _ _ _ c.in_ok-due.ensures.text c.print_in.ensures.ok
+returns-clause-ok g c = listed _ _ _ _ _ c.in_ok-due.ensures.text c.print_by.ensures.ok
 
 pub returns-clause-err : goal.returns-clause-err
-returns-clause-err g c = listed_some _ _ _ _ _ c.in_ok-due.ensures.text c.print_in.ensures.err
+returns-clause-err g c = listed_some _ _ _ _ _ c.in_ok-due.ensures.text c.print_by.ensures.err

@@ -9,7 +9,7 @@ pub loop-n-preserved : goal.loop-n-preserved
 loop-n-preserved g c =
     let turn = c.in-More.ensures in
     let (printed, split, moved) = c.loop-n.invariant.4 in
-    let text = take c.in-More.n c.write_next-turn.new.text in (
+    let text = take c.in-More.n c.write_next.new.text in (
       turn.3,
       turn.4,
       search rules,
@@ -31,6 +31,6 @@ pub returns-in_err-write_all-in-More-clause-err : goal.returns-in_err-write_all-
 returns-in_err-write_all-in-More-clause-err g c =
     let turn = c.in-More.ensures in
     let (printed, split, moved) = c.loop-n.invariant.4 in
-    let text = take c.in-More.n c.write_next-turn.new.text in
+    let text = take c.in-More.n c.write_next.new.text in
     on_err c.from_residual.result
     (wrote_behind _ _ _ _ _ _ split moved (wrote_before _ _ _ text (text_due c.in-More.rest) turn.0 c.in_err-write_all-in-More.ensures.err))

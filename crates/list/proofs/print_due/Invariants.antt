@@ -6,7 +6,7 @@ use Rattle.list.proofs.print_due.Given as goal
 
 abbrev pub invariant-loop-n : goal.invariant-loop-n
 invariant-loop-n g l =
-    Sound l.next × Tabled l.next l.steps l.firsts × (length l.page ≡ length l.initial.page) × (length l.text ≡ length l.initial.text)
+    Sound l.next × Tabled l.next l.tables.steps.now l.tables.firsts.now × (length l.page ≡ length l.initial.page) × (length l.text ≡ length l.initial.text)
     × ((printed : List ℕ) × (text_due l.fn.due ≡ printed ++ text_due l.next) × Appends (g.W.Write.contents l.initial.out) (g.W.Write.contents l.out) printed)
 
 abbrev pub decreases-loop-n : goal.decreases-loop-n

@@ -1,13 +1,7 @@
 -- `build` calls for the tables, which are refused neither by the generator nor by their length.
-use mathlib.Core.Path.{◌∙◌}
+use Rattle.std.proofs.Common.{◌∙◌}
 use Rattle.lister.proofs.TurnLaws.{sound_listing, tables_built}
 use Rattle.lister.proofs.build.Goals as goal
-
-pub returns-in-Bad : goal.returns-in-Bad
-returns-in-Bad c = rw c.in-Bad.is tt
-
-pub returns-in-Refused : goal.returns-in-Refused
-returns-in-Refused c = rw c.in-Refused.is tt
 
 pub returns-in-Listing : goal.returns-in-Listing
 returns-in-Listing c =
