@@ -37,8 +37,8 @@ fn go_on(cursor: Cursor, p: Pattern, pos: &mut [u16]) -> Option<usize>
     requires { Prepared cursor × Ascending (length cursor.powers.powers.now) 0 (positions p) × (length (positions p) ≤ length pos.old) }
     ensures { ListTold cursor.entry (length pos.old) (sift (before (positions p)) (listed_by cursor.entry (length pos.old))) result pos.new }
 {
-    patterns::put_positions(p, pos);
-    advance(cursor, pos, patterns::count_of(p))
+    let count = patterns::put_positions(p, pos);
+    advance(cursor, pos, count)
 }
 
 // The first listed pattern that follows a mark.

@@ -122,14 +122,16 @@ impl Positions {
     }
 }
 
-// Its positions, into the front of a slice.
-pub fn put_positions(p: Pattern, pos: &mut [u16])
+// Its positions, into the front of a slice; the answer is how many they are.
+pub fn put_positions(p: Pattern, pos: &mut [u16]) -> usize
     requires { length (positions p) ≤ length pos.old }
-    ensures { pos.new ≡ positions p ++ drop (length (positions p)) pos.old }
+    ensures placed { pos.new ≡ positions p ++ drop (length (positions p)) pos.old }
+    ensures count { result ≡ length (positions p) }
 {
     let held = Positions::of(p);
     let all = held.as_slice();
     pos[..all.len()].copy_from_slice(all);
+    all.len()
 }
 
 // The largest of ascending positions minus the smallest, and 0 for one or none. Nothing asks that they ascend.
