@@ -7,7 +7,7 @@ ghost use Rattle.poly.specs.Generators.{ccitt};
 ghost use Rattle.ccitt.specs.ByteTable.{byte_table};
 
 // Entry b is b times x^16, reduced.
-const BYTE_TABLE: [u16; 256] = [
+static BYTE_TABLE: [u16; 256] = [
     0x0000, 0x1021, 0x2042, 0x3063, 0x4084, 0x50a5, 0x60c6, 0x70e7, 0x8108, 0x9129, 0xa14a, 0xb16b,
     0xc18c, 0xd1ad, 0xe1ce, 0xf1ef, 0x1231, 0x0210, 0x3273, 0x2252, 0x52b5, 0x4294, 0x72f7, 0x62d6,
     0x9339, 0x8318, 0xb37b, 0xa35a, 0xd3bd, 0xc39c, 0xf3ff, 0xe3de, 0x2462, 0x3443, 0x0420, 0x1401,
@@ -32,18 +32,17 @@ const BYTE_TABLE: [u16; 256] = [
     0x2e93, 0x3eb2, 0x0ed1, 0x1ef0,
 ];
 
-// A constant is laid out in memory wherever it is named: a division names it once, and lends it to each step.
-pub fn byte_table() -> [u16; 256]
-    ensures { result ≡ byte_table }
+// The table, which stands in memory once.
+pub fn byte_table() -> &'static [u16; 256]
+    ensures { result.now ≡ byte_table }
 {
-    BYTE_TABLE
+    &BYTE_TABLE
 }
 
 // The remainder of r * x^8 + b, by one look-up.
-pub fn append(table: &[u16; 256], r: u16, b: u8) -> u16
-    requires { table.now ≡ byte_table }
+pub fn append(r: u16, b: u8) -> u16
     ensures { result ≡ rem ccitt.degree ccitt.coefficients (r * 256 + b) }
 {
     let [high, low] = r.to_be_bytes();
-    table[high as usize] ^ u16::from_be_bytes([low, b])
+    byte_table()[high as usize] ^ u16::from_be_bytes([low, b])
 }

@@ -38,3 +38,5 @@ module _ (close : ℕ) where
         pub digit_read_on : (less : ℕ) → room ≡ suc less → Digit (get_or s i 0)
             → read_from close room v (drop i s) ≡ read_from close less (v * 10 + (get_or s i 0 - 48)) (drop (i + 1) s)
         digit_read_on less r d = rw (r, here) (read_from_digit close less v (get_or s i 0) (drop (i + 1) s) e d)
+
+pub ruleset reading = (nothing_read, other_read, digit_read, end_read, close_read, full_read, other_read_on, digit_read_on)

@@ -27,7 +27,7 @@ fn digit(c: u8) -> Option<u64>
 }
 
 // A number of one to nine digits with the byte `close` behind it, and what follows.
-#[tactic(auto, using(crate::proofs::ReadLaws::nothing_read, crate::proofs::ReadLaws::other_read, crate::proofs::ReadLaws::digit_read, crate::proofs::ReadLaws::end_read, crate::proofs::ReadLaws::close_read, crate::proofs::ReadLaws::full_read, crate::proofs::ReadLaws::other_read_on, crate::proofs::ReadLaws::digit_read_on))]
+#[tactic(auto, using(crate::proofs::ReadLaws::reading))]
 fn number(input: &[u8], close: u8) -> Option<(u64, &[u8])>
     ensures { MatchOption result (read close input.entry.now ≡ None) (λ p. read close input.entry.now ≡ Some (p.0, p.1.now)) }
 {

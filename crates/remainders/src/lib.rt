@@ -5,7 +5,6 @@ ghost use Rattle.std.specs.Prelude.{◌≡◌, suc, ◌+◌, ◌*◌, ◌^◌, �
 ghost use Rattle.poly.specs.Fit.{Fit};
 ghost use Rattle.poly.specs.Generators.{ccitt};
 ghost use Rattle.poly.specs.Polynomial.{rem};
-ghost use Rattle.ccitt.specs.ByteTable.{byte_table};
 ghost use Rattle.packet.specs.Packet.{polynomial_after, polynomial, remainder};
 ghost use Rattle.packet.specs.Reading.{Readable};
 ghost use Rattle.remainders.specs.Cancelling.{Cancelled};
@@ -62,13 +61,12 @@ fn divide(g: Generator, register: u64, packet: &[u8]) -> u64
 }
 
 // The same by ccitt, with one look-up a byte. A loop of its own: the step takes a narrower register, and asks nothing of it.
-fn divide_by_ccitt(table: &[u16; 256], register: u16, packet: &[u8]) -> u16
-    requires { table.now ≡ byte_table }
+fn divide_by_ccitt(register: u16, packet: &[u8]) -> u16
     ensures { result ≡ rem ccitt.degree ccitt.coefficients (polynomial_after register packet.now) }
 {
     let mut r = register;
     for b in packet {
-        r = ccitt::append(table, r, *b);
+        r = ccitt::append(r, *b);
     }
     r
 }
@@ -88,8 +86,7 @@ fn remainder_by_ccitt(crc: Crc, packet: &[u8]) -> u64
 {
     let first = first_two(packet);
     let register = first ^ crc.init as u16;
-    let table = ccitt::byte_table();
-    divide_by_ccitt(&table, register, &packet[2..]) as u64 ^ crc.xorout
+    divide_by_ccitt(register, &packet[2..]) as u64 ^ crc.xorout
 }
 
 // The remainder of a packet. But for ccitt, the register starts so that the initial value is added at the first n bits.

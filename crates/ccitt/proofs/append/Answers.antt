@@ -11,4 +11,4 @@ pub returns : goal.returns
 returns c =
     let high = ap (λ (l : List ℕ). get_or l 0 0) c.to_be_bytes.ensures in
     let low = ap (λ (l : List ℕ). get_or l 1 0) c.to_be_bytes.ensures in
-    by_entry c.args.r c.args.b c.ranges.r.fits c.ranges.b.fits c.requires (omega (arith, high)) (omega (arith, low, c.from_be_bytes.ensures))
+    by_entry c.args.r c.args.b c.ranges.r.fits c.ranges.b.fits c.byte_table.ensures (omega (arith, high)) (omega (arith, low, c.from_be_bytes.ensures))

@@ -4,15 +4,8 @@ use Prim.Native.Nat.{ℕ, ◌+◌, ◌-◌, ◌*◌, ◌/◌, ◌<◌, ◌≤◌
 use native.Mathlib.Omega.{arith}
 use native.Mathlib.Nat.{mul_comm}
 use lib.ListN.{get_or}
-use Rattle.placing.proofs.NearestLaws.{reach_bounds, near_first, near_none, near_period, near_end}
+use Rattle.placing.proofs.NearestLaws.{reach_bounds, near_none, near_period, near_end}
 use Rattle.placing.proofs.Powers.nearest_below.Goals as goal
-
-pub returns-then-f-lo : goal.returns-then-f-lo
-returns-then-f-lo c =
-    let a = c.args in (
-      omega arith,
-      λ power t. near_first t.firsts a.u (omega (arith, c.requires.0.index.full)) a.end a.lo (omega (arith, c.requires.0.shape.short)) (omega arith),
-    )
 
 pub returns-then-self : goal.returns-then-self
 returns-then-self c power t =
@@ -23,16 +16,6 @@ returns-then-self c power t =
 reaches : (d period : ℕ) → 1 ≤ period → let k = (d + period - 1) / period in
     ((d ≤ k * period) × (k * period < d + period)) × (period * k ≡ k * period)
 reaches d period h = (reach_bounds d period h, mul_comm period ((d + period - 1) / period))
-
-pub overflow_mul-p : goal.overflow_mul-p
-overflow_mul-p c =
-    let a = c.args in
-    omega (arith, reaches (a.lo - get_or a.self.firsts.now a.u 0) a.self.period c.requires.0.index.positive)
-
-pub overflow_add-p-2 : goal.overflow_add-p-2
-overflow_add-p-2 c =
-    let a = c.args in
-    omega (arith, reaches (a.lo - get_or a.self.firsts.now a.u 0) a.self.period c.requires.0.index.positive)
 
 pub returns-then-p-end : goal.returns-then-p-end
 returns-then-p-end c =
