@@ -19,14 +19,6 @@ pub record RowRun (c : Crc) (k : Check) (limit f n : ℕ) (start t : Tried) (i :
   pub bound : Within t.counts (f * n + i)
 
 module _ (c : Crc) (k : Check) (limit f n : ℕ) where
-  pub row_run_none : (start : Tried) → Within start.counts (f * n) → RowRun c k limit f n start start 0
-  row_run_none start w =
-      record {
-        within = omega arith;
-        due = let all : n - 0 ≡ n = omega arith in ap (λ (m : ℕ). trials c k limit f m start) all;
-        bound = within_more (f * n + 0) start.counts w (omega arith);
-      }
-
   trial_within : (t : Tried) (m : ℕ) → Within t.counts m → Within (trial c k limit f t).counts (suc m)
   unfolding trial
   trial_within t m w = counted_within _ _ t.counts w
@@ -57,9 +49,6 @@ pub record RowsRun (c : Crc) (k : Check) (limit n : ℕ) (start t : Tried) (f : 
   pub bound : Within t.counts (f * n)
 
 module _ (c : Crc) (k : Check) (limit n : ℕ) where
-  pub rows_run_none : (start : Tried) → Within start.counts 0 → RowsRun c k limit n start start 0
-  rows_run_none start w = record { within = omega arith; due = refl; bound = within_more (0 * n) start.counts w (omega arith) }
-
   pub rows_run_more : {start t u : Tried} {f : ℕ} → RowsRun c k limit n start t f → f < 9 → (u ≡ trials c k limit f n t) × Within u.counts (suc f * n)
       → RowsRun c k limit n start u (f + 1)
   unfolding rows_of

@@ -1,10 +1,11 @@
--- Two lists are the same just if they are equal.
-use mathlib.Core.Path.{◌≡◌, refl, sym, ap₂}
-use mathlib.Core.Bool.{true, false, true≢false}
+-- Two lists are the same just if they are equal, and just if `==` says so.
+use mathlib.Core.Path.{◌≡◌, refl, sym, ap, ap₂}
+use mathlib.Core.Bool.{Bool, true, false, true≢false, ◌&&◌}
 use mathlib.Core.List.{List, [], ◌∷◌}
 use Prim.Native.Nat.{ℕ}
 use borrow.Author.Tests.{eq-eqb, eqb-true}
 use lib.Dec.{eqb}
+use lib.Pointwise.{pointwise}
 use Rattle.base.proofs.Cases.{by_test}
 use Rattle.trials.specs.Trials.{same}
 
@@ -26,3 +27,10 @@ true_same p q e = rw e (same_itself q)
 
 pub same_false : (p q : List ℕ) → (p ≡ q → ⊥) → same p q ≡ false
 same_false p q h = by_test (same p q) (λ e. absurd (h (same_true p q e))) (λ e. e)
+
+pub pointwise_same : (p q : List ℕ) → pointwise eqb p q ≡ same p q
+unfolding same
+pointwise_same [] [] = refl
+pointwise_same [] (b ∷ q) = refl
+pointwise_same (a ∷ p) [] = refl
+pointwise_same (a ∷ p) (b ∷ q) = ap (λ (t : Bool). eqb a b && t) (pointwise_same p q)

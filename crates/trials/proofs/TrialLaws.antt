@@ -1,4 +1,4 @@
--- A trial: the packet made and the one received have bytes, and the column found by positions is the verdict's.
+-- A trial: the column found by positions is the verdict's, and the parts come to the whole.
 use mathlib.Core.Path.{◌≡◌, refl, sym, ap, ◌∙◌}
 use mathlib.Core.Bool.{Bool, true≢false}
 use mathlib.Core.List.{List}
@@ -25,24 +25,6 @@ use Rattle.verdicts.proofs.VerdictLaws.{verdict_repaired}
 use Rattle.trials.specs.Trials.{same, column, counted, received, trial}
 use Rattle.trials.specs.Running.{Usable, column_by, tried}
 use Rattle.trials.proofs.SameLaws.{same_true, true_same, same_false}
-
--- ---- what is usable may be made and repaired ----
-
-pub usable_readable : {c : Crc} {k : Check} {len : ℕ} → Usable c k len → (s : List ℕ) → length s ≡ len → Readable c s
-usable_readable u s e = record { fit = u.fit; init = u.init; xorout = u.xorout; long = rw e u.long }
-
-pub usable_settleable : {c : Crc} {k : Check} {len limit : ℕ} → Usable c k len → limit ≤ most_positions → (s : List ℕ) → Bytes s → length s ≡ len
-    → Settleable c k limit s
-usable_settleable u few s bs e =
-    record {
-      readable = usable_readable u s e;
-      bytewise = bs;
-      short = rw e u.short;
-      few = few;
-      ordered = omega (arith, u.after, u.within);
-      inside = rw e u.inside;
-      field_inside = λ h. u.within;
-    }
 
 -- ---- the column ----
 
@@ -74,12 +56,6 @@ module _ (s t ps : List ℕ) (bt : Bytes t) (bs : Bytes s) (ascends : Ascending 
   column-found c k limit fit =
       column-said (verdict c k limit s)
       (λ p e. ((listed_iff c.generator.degree c.generator.coefficients (bits s) limit (remainder c s) p).0 ((verdict_repaired c k limit s fit bs p).0 e).1.listed).0)
-
-pub column_lt : (v : Said) (s t : List ℕ) → column v s t < 5
-column_lt intact s t = omega arith
-column_lt (repaired p) s t = by_test (same (flips s p) t) (λ e. rw e (omega arith)) (λ e. rw e (omega arith))
-column_lt (several n p) s t = omega arith
-column_lt nothing s t = omega arith
 
 -- ---- a trial, by its parts ----
 

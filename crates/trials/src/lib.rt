@@ -1,4 +1,4 @@
-// Trials: a packet is made, bits of it flip, and what a repair says of it is counted, in an array of rows that is passed on by value.
+// Trials: a packet is made, bits of it flip, and what a repair says of it is counted.
 #![tactic(auto)]
 
 ghost use Rattle.std.specs.Prelude.{◌≡◌, List, ℕ, suc, ◌*◌, ◌<◌, ◌≤◌, length};
@@ -12,7 +12,6 @@ ghost use Rattle.cursor.specs.Cursors.{Serves};
 ghost use Rattle.verdicts.specs.Verdicts.{said, verdict, output_for};
 ghost use Rattle.trials.specs.Trials.{
   most_flips,
-  same,
   column,
   counted,
   joined_rows,
@@ -22,12 +21,13 @@ ghost use Rattle.trials.specs.Trials.{
   trials,
   rows_of,
 };
-ghost use Rattle.trials.specs.Running.{Usable, column_by, tried, Within, Shaped};
+ghost use Rattle.trials.specs.Running.{Usable, Runnable, place, column_by, tried, Within};
 
 use checksum::Check;
 use packet::Crc;
-use patterns::Pattern;
-use verdicts::Verdict;
+use patterns::Positions;
+use placing::Powers;
+use verdicts::{Settings, Verdict};
 
 // The most flips of a trial.
 pub const MOST_FLIPS: usize = 8;
@@ -39,57 +39,42 @@ pub const COLUMNS: usize = 5;
 
 pub const COUNTS: usize = ROWS * COLUMNS;
 
-// What a trial comes to.
+pub type Rows = [[u32; COLUMNS]; ROWS];
+
+// What a trial is counted as, by its place in a row: intact, repaired to the packet made or otherwise, several repairs, or none.
 #[derive(Clone, Copy)]
-struct Trial {
-    state: u32,
-    column: usize,
+enum Column {
+    Intact = 0,
+    Restored = 1,
+    FalseRepair = 2,
+    Several = 3,
+    None = 4,
 }
 
-// Are two lists of positions the same?
-fn are_same(p: &[u16], q: &[u16]) -> bool
-    ensures { result ≡ same p.now q.now }
-{
-    if p.len() != q.len() {
-        return false;
+impl Column {
+    fn place(self) -> usize
+        ensures { (result ≡ place self) × (result < 5) }
+    {
+        self as usize
     }
-    let mut i: usize = 0;
-    while i < p.len() {
-        if p[i] != q[i] {
-            return false;
-        }
-        i += 1;
-    }
-    true
 }
 
-// Does a pattern have just the given positions?
-fn names(p: Pattern, flipped: &[u16]) -> bool
-    ensures { result ≡ same (positions p) flipped.now }
-{
-    let held = patterns::spread(p);
-    let n = patterns::count_of(p);
-    are_same(&held[..n], flipped)
-}
-
-// The column that a verdict is counted in: the packet made comes back where the pattern named is what was flipped, and only there.
-fn column_of(verdict: Verdict, flipped: &[u16]) -> usize
-    ensures { result ≡ column_by (said verdict) flipped.now }
+// The column of a verdict. The packet made comes back where the pattern named is what was flipped, and only there.
+#[tactic(auto, using(crate::proofs::SameLaws::pointwise_same))]
+fn column_of(verdict: Verdict, flipped: &[u16]) -> Column
+    ensures { place result ≡ column_by (said verdict) flipped.now }
 {
     match verdict {
-        Verdict::Intact => 0,
-        Verdict::Repaired(p) => {
-            if names(p, flipped) {
-                return 1;
-            }
-            2
-        }
-        Verdict::Several(_, _) => 3,
-        Verdict::None => 4,
+        Verdict::Intact => Column::Intact,
+        Verdict::Repaired(p) if Positions::of(p).as_slice() == flipped => Column::Restored,
+        Verdict::Repaired(_) => Column::FalseRepair,
+        Verdict::Several(_, _) => Column::Several,
+        Verdict::None => Column::None,
     }
 }
 
 // Makes a packet and flips as many bits of it as there is room for positions. The answer is the state after the last draw.
+#[tactic(auto, unfolding(crate::specs::Trials::received))]
 fn receive(crc: Crc, check: Check, seed: u32, packet: &mut [u8], flipped: &mut [u16]) -> u32
     requires { Usable crc check (length packet.old) × (length flipped.old ≤ most_flips) }
     ensures state { result ≡ state_after (length flipped.old) (state_after (length packet.old) seed) }
@@ -105,122 +90,86 @@ fn receive(crc: Crc, check: Check, seed: u32, packet: &mut [u8], flipped: &mut [
 
 // The column that a received packet is counted in, by what was flipped, and its repair where there is one.
 fn conclude_trial(
-    crc: Crc,
-    check: Check,
-    limit: usize,
-    period: u64,
-    pow: &[u32],
-    firsts: &[u16],
+    settings: Settings,
+    powers: Powers,
     packet: &[u8],
     flipped: &[u16],
     output: &mut [u8],
-) -> usize
-    requires { Usable crc check (length packet.now) × (limit ≤ most_positions) × Serves crc.generator (bits packet.now) pow.now firsts.now period × (length output.old ≡ length packet.now) }
-    ensures column { (t : List ℕ) → Bytes t → Ascending (bits t) 0 flipped.now → packet.now ≡ flips t flipped.now → result ≡ column (verdict crc check limit packet.now) packet.now t }
-    ensures output { output.new ≡ output_for crc check limit packet.now output.old }
+) -> Column
+    requires { Runnable settings powers (length packet.now) (length output.old) }
+    ensures column { (t : List ℕ) → Bytes t → Ascending (bits t) 0 flipped.now → packet.now ≡ flips t flipped.now → place result ≡ column (verdict settings.crc settings.check settings.limit packet.now) packet.now t }
+    ensures output { output.new ≡ output_for settings.crc settings.check settings.limit packet.now output.old }
 {
-    let v = verdicts::conclude(crc, check, limit, period, pow, firsts, packet, output);
-    column_of(v, flipped)
+    let verdict = verdicts::conclude(settings, powers, packet, output);
+    column_of(verdict, flipped)
 }
 
-// One trial from a state, with as many flips as there is room for positions.
+// One trial from a state, with as many flips as there is room for positions. The state runs on.
 fn run_trial(
-    crc: Crc,
-    check: Check,
-    limit: usize,
-    period: u64,
-    pow: &[u32],
-    firsts: &[u16],
-    seed: u32,
+    settings: Settings,
+    powers: Powers,
+    state: &mut u32,
     flipped: &mut [u16],
     packet: &mut [u8],
     output: &mut [u8],
-) -> Trial
-    requires { Usable crc check (length packet.old) × (limit ≤ most_positions) × Serves crc.generator (bits packet.old) pow.now firsts.now period × (length output.old ≡ length packet.old) × (length flipped.old ≤ most_flips) }
-    ensures trial { (counts : List (List ℕ)) → tried result.state packet.new output.new (counted (length flipped.old) result.column counts) ≡ trial crc check limit (length flipped.old) (tried seed packet.old output.old counts) }
-    ensures column { result.column < 5 }
+) -> Column
+    requires { Runnable settings powers (length packet.old) (length output.old) × (length flipped.old ≤ most_flips) }
+    ensures { (counts : List (List ℕ)) → tried state.new packet.new output.new (counted (length flipped.old) (place result) counts) ≡ trial settings.crc settings.check settings.limit (length flipped.old) (tried state.old packet.old output.old counts) }
 {
-    let state = receive(crc, check, seed, packet, flipped);
-    let column = conclude_trial(
-        crc, check, limit, period, pow, firsts, packet, flipped, output,
-    );
-    Trial { state, column }
+    let seed = *state;
+    let after = receive(settings.crc, settings.check, seed, packet, flipped);
+    *state = after;
+    conclude_trial(settings, powers, packet, flipped, output)
 }
 
 // One count more, in a row and a column.
-fn count_in(rows: [[u32; COLUMNS]; ROWS], row: usize, column: usize) -> [[u32; COLUMNS]; ROWS]
-    requires { (row < 9) × (column < 5) × Within rows 4294967294 }
-    ensures { result ≡ counted row column rows }
+#[tactic(auto, unfolding(crate::specs::Trials::counted))]
+fn count_in(rows: &mut Rows, row: usize, column: Column)
+    requires { (row < 9) × Within rows.old 4294967294 }
+    ensures { rows.new ≡ counted row (place column) rows.old }
 {
-    let mut next = rows;
-    let count = next[row][column];
-    next[row][column] = count + 1;
-    next
+    rows[row][column.place()] += 1;
 }
 
 // So many trials with as many flips as there is room for positions. The state runs on.
 fn run_row(
-    crc: Crc,
-    check: Check,
-    limit: usize,
-    period: u64,
-    pow: &[u32],
-    firsts: &[u16],
+    settings: Settings,
+    powers: Powers,
     count: u64,
-    before: [[u32; COLUMNS]; ROWS],
+    rows: &mut Rows,
     state: &mut u32,
     flipped: &mut [u16],
     packet: &mut [u8],
     output: &mut [u8],
-) -> [[u32; COLUMNS]; ROWS]
-    requires { Usable crc check (length packet.old) × (limit ≤ most_positions) × Serves crc.generator (bits packet.old) pow.now firsts.now period × (length output.old ≡ length packet.old) × (length flipped.old ≤ most_flips) × (count ≤ 65535) × Within before (length flipped.old * count) }
-    ensures trials { tried state.new packet.new output.new result ≡ trials crc check limit (length flipped.old) count (tried state.old packet.old output.old before) }
-    ensures within { Within result (suc (length flipped.old) * count) }
+)
+    requires { Runnable settings powers (length packet.old) (length output.old) × (length flipped.old ≤ most_flips) × (count ≤ 65535) × Within rows.old (length flipped.old * count) }
+    ensures trials { tried state.new packet.new output.new rows.new ≡ trials settings.crc settings.check settings.limit (length flipped.old) count (tried state.old packet.old output.old rows.old) }
+    ensures within { Within rows.new (suc (length flipped.old) * count) }
 {
-    let mut rows = before;
-    let mut i: u64 = 0;
-    while i < count {
-        let seed = *state;
-        let t = run_trial(
-            crc, check, limit, period, pow, firsts, seed, flipped, packet, output,
-        );
-        let after = t.state;
-        *state = after;
-        let next = count_in(rows, flipped.len(), t.column);
-        rows = next;
-        i += 1;
+    for _ in 0..count {
+        let column = run_trial(settings, powers, state, flipped, packet, output);
+        count_in(rows, flipped.len(), column);
     }
-    rows
 }
 
 // So many trials with each number of flips, from none on; `pos` has room for the most.
 pub fn run_rows(
-    crc: Crc,
-    check: Check,
-    limit: usize,
-    period: u64,
-    pow: &[u32],
-    firsts: &[u16],
+    settings: Settings,
+    powers: Powers,
     count: u64,
-    before: [[u32; COLUMNS]; ROWS],
+    rows: &mut Rows,
     state: &mut u32,
     pos: &mut [u16],
     packet: &mut [u8],
     output: &mut [u8],
-) -> [[u32; COLUMNS]; ROWS]
-    requires { Usable crc check (length packet.old) × (limit ≤ most_positions) × Serves crc.generator (bits packet.old) pow.now firsts.now period × (length output.old ≡ length packet.old) × (length pos.old ≡ most_flips) × (count ≤ 65535) × Within before 0 }
-    ensures { tried state.new packet.new output.new result ≡ rows_of crc check limit count (suc most_flips) 0 (tried state.old packet.old output.old before) }
+)
+    requires { Runnable settings powers (length packet.old) (length output.old) × (length pos.old ≡ most_flips) × (count ≤ 65535) × Within rows.old 0 }
+    ensures { tried state.new packet.new output.new rows.new ≡ rows_of settings.crc settings.check settings.limit count (suc most_flips) 0 (tried state.old packet.old output.old rows.old) }
 {
-    let mut rows = before;
-    let mut flips: usize = 0;
-    while flips < ROWS {
-        let next = run_row(
-            crc,
-            check,
-            limit,
-            period,
-            pow,
-            firsts,
+    for flips in 0..ROWS {
+        run_row(
+            settings,
+            powers,
             count,
             rows,
             state,
@@ -228,20 +177,13 @@ pub fn run_rows(
             packet,
             output,
         );
-        rows = next;
-        flips += 1;
     }
-    rows
 }
 
 // The counts of all rows, one behind the other.
-pub fn put_rows(rows: [[u32; COLUMNS]; ROWS], counts: &mut [u32])
-    requires { (length counts.old ≡ counts_length) × Shaped rows }
-    ensures { counts.new ≡ joined_rows rows }
+pub fn put_rows(rows: &Rows, counts: &mut [u32])
+    requires { length counts.old ≡ counts_length }
+    ensures { counts.new ≡ joined_rows rows.now }
 {
-    let mut i: usize = 0;
-    while i < counts.len() {
-        counts[i] = rows[i / COLUMNS][i % COLUMNS];
-        i += 1;
-    }
+    counts.copy_from_slice(rows.as_flattened());
 }
