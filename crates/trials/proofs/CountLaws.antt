@@ -1,13 +1,10 @@
 -- Counts: none is above the number of trials.
-use mathlib.Core.Path.{◌≡◌, refl, sym, ap, ◌∙◌}
+use mathlib.Core.Path.{◌≡◌, refl, ap}
 use mathlib.Core.List.{List, [], ◌∷◌}
-use Prim.Native.Nat.{ℕ, zero, suc, ◌+◌, ◌*◌, ◌<◌, ◌≤◌}
-use native.Mathlib.Nat.{mul-le-mul_right}
+use Prim.Native.Nat.{ℕ, zero, suc, ◌≤◌}
 use native.Mathlib.Omega.{arith}
-use lib.ListN.{length, get_or, set, replicate, length-set, length-append, get_or-replicate}
-use Rattle.packet.specs.declared.Crc.{Crc}
-use Rattle.checksum.specs.declared.Check.{Check}
-use Rattle.trials.specs.Trials.{no_counts, counted, Tried, trial, trials, rows_of, simulated}
+use lib.ListN.{get_or, set, replicate}
+use Rattle.trials.specs.Trials.{no_counts, counted}
 use Rattle.trials.specs.Running.{Within}
 
 -- an element of a list that has another at one place

@@ -2,28 +2,24 @@
 use mathlib.Core.Path.{◌≡◌, refl, sym, ap, ◌∙◌}
 use mathlib.Core.Bool.{Bool, true≢false}
 use mathlib.Core.List.{List}
-use Prim.Native.Nat.{ℕ, ◌*◌, ◌<◌, ◌≤◌}
-use native.Mathlib.Omega.{arith}
+use Prim.Native.Nat.{ℕ, ◌*◌}
 use lib.ListN.{length}
 use Rattle.base.specs.Lists.{Ascending}
 use Rattle.base.specs.Outcome.{pick}
 use Rattle.base.proofs.Cases.{by_test}
 use Rattle.poly.specs.Fit.{Fit}
 use Rattle.packet.specs.Packet.{Bytes, bits, remainder, flips, difference}
-use Rattle.packet.specs.Reading.{Readable}
 use Rattle.packet.specs.declared.Crc.{Crc}
 use Rattle.packet.proofs.DifferenceLaws.{difference-flips, flips_differ, flips_twice}
 use Rattle.checksum.specs.declared.Check.{Check}
 use Rattle.maker.specs.Stream.{state_after}
 use Rattle.maker.specs.Calls.{made}
 use Rattle.channel.specs.Channel.{drawn}
-use Rattle.patterns.specs.Patterns.{most_positions}
 use Rattle.patterns.proofs.ListingLaws.{listed_iff}
 use Rattle.verdicts.specs.Verdicts.{Said, intact, repaired, several, nothing, verdict, output_for}
-use Rattle.verdicts.specs.Settling.{Settleable}
 use Rattle.verdicts.proofs.VerdictLaws.{verdict_repaired}
 use Rattle.trials.specs.Trials.{same, column, counted, received, trial}
-use Rattle.trials.specs.Running.{Usable, column_by, tried}
+use Rattle.trials.specs.Running.{column_by, tried}
 use Rattle.trials.proofs.SameLaws.{same_true, true_same, same_false}
 
 -- ---- the column ----

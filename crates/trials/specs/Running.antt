@@ -1,5 +1,5 @@
 -- What the inner functions of a simulation ask of and tell each other.
-use Rattle.std.specs.Prelude.{◌≡◌, ℕ, ◌+◌, ◌*◌, ◌^◌, ◌≤◌, ◌<◌, List, [], length, get_or}
+use Rattle.std.specs.Prelude.{◌≡◌, ℕ, ◌+◌, ◌*◌, ◌^◌, ◌≤◌, ◌<◌, List, [], get_or}
 use Rattle.base.specs.Outcome.{pick}
 use Rattle.poly.specs.Fit.{Fit}
 use Rattle.packet.specs.declared.Crc.{Crc}

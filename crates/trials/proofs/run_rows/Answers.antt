@@ -11,7 +11,7 @@ loop-flips-preserved c =
     let i = c.loop-flips in
     let lent : length (take i.flips i.pos) ≡ i.flips = length-take-le i.flips i.pos (omega arith) in
     let row = c.run_row.ensures in
-    rows_run_more _ _ _ _ i.invariant c.loop-flips-test.true (rw lent at row.trials, rw lent at row.within)
+    rows_run_more _ _ _ _ i.invariant (omega arith) (rw lent at row.trials, rw lent at row.within)
 
 pub returns : goal.returns
 returns c = rows_run_all _ _ _ _ c.loop-flips.invariant c.loop-flips-test.false
