@@ -1,18 +1,17 @@
 -- The simulation's call: what it answers, and what the packet, the output and the counts lent to it then hold.
 use Rattle.std.specs.Prelude.{ℕ, Bool, not, ◌||◌, List, [], ◌∷◌, eqb, ltb, length}
 use Rattle.base.specs.Outcome.{Outcome, refused, accepted, Condition, when, judge}
-use Rattle.base.specs.Refusals.{number}
 use Rattle.poly.specs.Generators.{unfit}
-use Rattle.packet.specs.Packet.{bits, unfit_length, unfit_values}
+use Rattle.packet.specs.Packet.{bits, unfit_length, unfit_values, crc_of}
+use Rattle.packet.specs.declared.CrcNumbers.{CrcNumbers}
 use Rattle.packet.specs.declared.Crc.{Crc}
 use Rattle.tables.specs.Tables.{unfit_tables, wrong_tables}
+use Rattle.tables.specs.declared.lent.Tables.{Tables}
 use Rattle.checksum.specs.Checksum.{unfit_range, unfit_field}
 use Rattle.checksum.specs.declared.Check.{Check}
 use Rattle.patterns.specs.Listing.{unfit_limit}
 use Rattle.repair.specs.Calls.{unfit_copy}
 use Rattle.trials.specs.Trials.{Tried, counts_length, joined_rows, simulated}
-use Rattle.simulation.specs.declared.SimulateAnswer.{SimulateAnswer}
-use Rattle.simulation.specs.declared.SimulateAnswer.TheVariants.{Simulated, Refused}
 
 -- what a simulation is given
 pub record Simulation : Type 0 where
@@ -42,6 +41,11 @@ simulation crc seed check limit trials steps firsts packet output counts =
       counts = counts;
     }
 
+-- the same of the numbers of a CRC and tables that are lent
+abbrev pub simulation_by : CrcNumbers → ℕ → Check → ℕ → ℕ → Tables → List ℕ → List ℕ → List ℕ → Simulation
+simulation_by n seed check limit trials t packet output counts =
+    simulation (crc_of n.generator n.init n.xorout) seed check limit trials t.steps.now t.firsts.now packet output counts
+
 -- condition 8 of a simulation: an output that is not as long as the packet, or counts of another number
 unfoldable pub unfit_room : ℕ → ℕ → ℕ → Bool
 unfit_room room long counts = unfit_copy room long || not (eqb counts counts_length)
@@ -70,11 +74,7 @@ simulate_conditions r =
 abbrev pub outcome : Simulation → Tried
 outcome r = simulated r.crc r.check r.limit r.trials r.seed r.packet r.output
 
--- an answer that is no refusal holds the state after the last draw
-abbrev pub simulate_answer : SimulateAnswer → Outcome ℕ
-simulate_answer (Simulated x) = accepted x
-simulate_answer (Refused q) = refused (number q)
-
+-- the answer, which is the state after the last draw
 abbrev pub simulate_call : Simulation → Outcome ℕ
 simulate_call r = judge (simulate_conditions r) refused (accepted (outcome r).state)
 

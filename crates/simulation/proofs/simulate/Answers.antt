@@ -3,10 +3,10 @@ use mathlib.Core.Path.{sym, ap, ◌∙◌}
 use Prim.Native.Nat.{ℕ, ◌*◌}
 use native.Mathlib.Omega.{arith}
 use lib.ListN.{length}
+use Rattle.std.proofs.lemmas.Result.{err_from_is_err_and}
 use Rattle.base.specs.Outcome.{refused, accepted}
 use Rattle.base.proofs.JudgeLaws.{turned_down, let_through, none_applies}
 use Rattle.poly.specs.Polynomial.{degree}
-use Rattle.packet.specs.Packet.{crc_of}
 use Rattle.packet.specs.declared.Crc.{Crc}
 use Rattle.packet.proofs.PacketLaws.{fit_length}
 use Rattle.packet.proofs.ReadLaws.{fit_readable}
@@ -14,25 +14,25 @@ use Rattle.checksum.proofs.ConditionLaws.{fit_range, fit_field}
 use Rattle.tables.proofs.TableLaws.{right_unless_wrong}
 use Rattle.patterns.proofs.MarkLaws.{fit_limit}
 use Rattle.trials.specs.Trials.{joined_rows, simulated}
-use Rattle.simulation.specs.Calls.{simulation, simulate_conditions, outcome}
+use Rattle.simulation.specs.Calls.{simulation_by, simulate_conditions, outcome}
 use Rattle.simulation.proofs.ConditionLaws.{fit_room, fit_trials}
 use Rattle.simulation.proofs.simulate.Goals as goal
 
-pub simulate_by-state-requires : goal.simulate_by-state-requires
-simulate_by-state-requires c =
-    let m = c in
-    let j = m in
-    let s = c in
-    let a = s.args in
-    let n : ℕ = degree a.generator in
+pub simulate_by-requires : goal.simulate_by-requires
+simulate_by-requires c =
+    let a = c.args in
+    let k = a.numbers in
+    let t = a.tables in
+    let n : ℕ = degree k.generator in
     let p = a.packet.now in
-    let clear = none_applies (simulate_conditions (let a = s.args in simulation (crc_of a.generator a.init a.xorout) a.seed a.check a.limit a.count a.steps.now a.firsts.now a.packet.now a.output.now a.counts.now)) (j.judge_simulate-judged.ensures a.seed) m.in-Passed.is in
-    let right = right_unless_wrong n a.generator a.steps.now a.firsts.now (clear 6) in
-    let readable = fit_readable a.generator a.init a.xorout p (clear 1) (clear 2) (clear 11) in
+    let r = simulation_by k a.seed a.check a.limit a.count t p a.output.now a.counts.now in
+    let clear = none_applies (simulate_conditions r) (c.judge_simulate.ensures a.seed) c.in_ok-judge_simulate.was in
+    let right = right_unless_wrong n k.generator t.steps.now t.firsts.now (clear 6) in
+    let readable = fit_readable k.generator k.init k.xorout p (clear 1) (clear 2) (clear 11) in
     let range = fit_range n (8 * length p) a.check (clear 9) in
     let field = fit_field a.check (clear 10) in
     let room = fit_room (length a.output.now) (length p) (length a.counts.now) (clear 8) in
-    rw m.crc_of-crc.ensures (
+    rw c.from-crc.ensures (
       record {
         fit = readable.fit;
         init = readable.init;
@@ -50,31 +50,29 @@ simulate_by-state-requires c =
       (fit_trials a.count (clear 14)).1,
     )
 
-pub returns-in-Refused : goal.returns-in-Refused
-returns-in-Refused c =
-    let j = c in
-    let r = simulation (crc_of c.args.generator c.args.init c.args.xorout) c.args.seed c.args.check c.args.limit c.args.count c.args.steps.now c.args.firsts.now c.args.packet.now c.args.output.now c.args.counts.now in
+pub returns-in_err-judge_simulate : goal.returns-in_err-judge_simulate
+returns-in_err-judge_simulate c =
+    let a = c.args in
+    let r = simulation_by a.numbers a.seed a.check a.limit a.count a.tables a.packet.now a.output.now a.counts.now in
     let ts = simulate_conditions r in
-    let e = j.judge_simulate-judged.ensures r.seed in
-    let h = c.in-Refused.is in
+    let e = c.judge_simulate.ensures r.seed in
+    let h = c.in_err-judge_simulate.was in
     record {
-      answer = sym (turned_down ts e h refused (accepted (outcome r).state));
+      answer = let p = err_from_is_err_and c.from_residual.result c.from_residual.ensures.1 in rw (p.1, p.2) (sym (turned_down ts e h refused (accepted (outcome r).state)));
       packet = sym (turned_down ts e h (λ _. r.packet) (outcome r).packet);
       output = sym (turned_down ts e h (λ _. r.output) (outcome r).output);
       counts = sym (turned_down ts e h (λ _. r.counts) (joined_rows (outcome r).counts));
     }
 
-pub returns-in-Passed : goal.returns-in-Passed
-returns-in-Passed c =
-    let f = c in
-    let m = f in
-    let j = m in
-    let r = simulation (crc_of c.args.generator c.args.init c.args.xorout) c.args.seed c.args.check c.args.limit c.args.count c.args.steps.now c.args.firsts.now c.args.packet.now c.args.output.now c.args.counts.now in
+pub returns : goal.returns
+returns c =
+    let a = c.args in
+    let r = simulation_by a.numbers a.seed a.check a.limit a.count a.tables a.packet.now a.output.now a.counts.now in
     let ts = simulate_conditions r in
-    let e = j.judge_simulate-judged.ensures r.seed in
-    let h = m.in-Passed.is in
-    let by = f.simulate_by-state.ensures in
-    let crc = ap (λ (k : Crc). simulated k r.check r.limit r.trials r.seed r.packet r.output) m.crc_of-crc.ensures in
+    let e = c.judge_simulate.ensures r.seed in
+    let h = c.in_ok-judge_simulate.was in
+    let by = c.simulate_by.ensures in
+    let crc = ap (λ (k : Crc). simulated k r.check r.limit r.trials r.seed r.packet r.output) c.from-crc.ensures in
     record {
       answer = ap accepted (by.state ∙ ap (λ t. t.state) crc) ∙ sym (let_through ts e h refused (accepted (outcome r).state));
       packet = by.packet ∙ ap (λ t. t.packet) crc ∙ sym (let_through ts e h (λ _. r.packet) (outcome r).packet);

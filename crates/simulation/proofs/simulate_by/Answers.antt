@@ -1,9 +1,15 @@
--- `simulate_by` lends the arrays for the powers and for the positions.
-use mathlib.Core.Path.{refl}
-use native.Mathlib.Omega.{arith}
+-- `simulate_by` runs all rows, from none on, which is what is simulated.
+use mathlib.Core.Path.{ap, ◌∙◌}
+use Rattle.trials.specs.Trials.{Tried, joined_rows, simulated}
 use Rattle.simulation.proofs.simulate_by.Goals as goal
 
-pub simulate_in-requires : goal.simulate_in-requires
-simulate_in-requires c =
-    let s = c in
-    (refl, s.requires.0, s.requires.1, s.requires.2, s.requires.3, s.requires.4, s.requires.5, omega (arith, s.requires.0.short))
+pub returns : goal.returns
+unfolding simulated
+returns c =
+    let e = c.run_rows.ensures in
+    record {
+      state = ap (λ (t : Tried). t.state) e;
+      packet = ap (λ (t : Tried). t.packet) e;
+      output = ap (λ (t : Tried). t.output) e;
+      counts = c.put_rows.ensures ∙ ap (λ (t : Tried). joined_rows t.counts) e;
+    }
