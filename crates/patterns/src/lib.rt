@@ -91,27 +91,9 @@ impl Positions {
     pub fn of(p: Pattern) -> Positions
         ensures { result ≡ positions p }
     {
-        match p {
-            Pattern::Empty => Positions {
-                held: [0, 0, 0, 0],
-                count: 0,
-            },
-            Pattern::One(a) => Positions {
-                held: [a, 0, 0, 0],
-                count: 1,
-            },
-            Pattern::Two(a, b) => Positions {
-                held: [a, b, 0, 0],
-                count: 2,
-            },
-            Pattern::Three(a, b, c) => Positions {
-                held: [a, b, c, 0],
-                count: 3,
-            },
-            Pattern::Four(a, b, c, d) => Positions {
-                held: [a, b, c, d],
-                count: 4,
-            },
+        Positions {
+            held: spread(p),
+            count: count_of(p),
         }
     }
 
