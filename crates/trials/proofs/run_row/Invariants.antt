@@ -1,4 +1,4 @@
--- Invariant: what the trials left come to from here is what all come to, and no length has changed.
+-- Invariant: what the trials left come to from here is what all come to.
 use lib.ListN.{length}
 use Rattle.trials.specs.Running.{tried}
 use Rattle.trials.proofs.RunLaws.{RowRun}

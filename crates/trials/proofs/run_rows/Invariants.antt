@@ -1,4 +1,4 @@
--- Invariant: what the rows left come to from here is what all come to, and no length has changed.
+-- Invariant: what the rows left come to from here is what all come to.
 use Rattle.trials.specs.Running.{tried}
 use Rattle.trials.proofs.RunLaws.{RowsRun}
 use Rattle.trials.proofs.run_rows.Given as goal
