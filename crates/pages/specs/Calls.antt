@@ -1,20 +1,12 @@
 -- The page call: what it answers, and what its output then holds.
 use Rattle.std.specs.Prelude.{ℕ, List}
-use Rattle.base.specs.Outcome.{Outcome, refused, accepted}
-use Rattle.base.specs.Refusals.{number}
+use Rattle.base.specs.Outcome.{Outcome}
 use Rattle.poly.specs.Polynomial.{degree}
 use Rattle.patterns.specs.Patterns.{Point}
 use Rattle.patterns.specs.Listing.{listing}
 use Rattle.patterns.specs.Marks.{remaining}
 use Rattle.records.specs.Pages.{Page, paged_by, left_by}
-use Rattle.paging.specs.Results.{page_result}
 use Rattle.pages.specs.Conditions.{Request, page_conditions}
-use Rattle.pages.specs.declared.PageAnswer.{PageAnswer}
-use Rattle.pages.specs.declared.PageAnswer.TheVariants.{Paged, Refused}
-
-abbrev pub page_answer : PageAnswer → Outcome Page
-page_answer (Paged r) = accepted (page_result r)
-page_answer (Refused r) = refused (number r)
 
 -- the list that a call pages through
 abbrev pub requested : Request → List (List ℕ)

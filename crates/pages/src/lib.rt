@@ -2,24 +2,22 @@
 #![tactic(auto)]
 
 ghost use Rattle.std.specs.Prelude.{◌≡◌};
-ghost use Rattle.base.specs.Judged.{judgement, judged};
+ghost use Rattle.base.specs.Answers.{answered, outcome};
+ghost use Rattle.base.specs.Judged.{judged};
 ghost use Rattle.patterns.specs.Patterns.{point_of};
-ghost use Rattle.pages.specs.Conditions.{page_request, unfit_output, page_conditions};
-ghost use Rattle.pages.specs.Calls.{page_answer, page_call, page_left};
+ghost use Rattle.pages.specs.Conditions.{requested_by, unfit_output, page_conditions};
+ghost use Rattle.paging.specs.Results.{page_result};
+ghost use Rattle.pages.specs.Calls.{page_call, page_left};
 
-use base::{Judgement, Refusal};
-use paging::PageResult;
+use base::Refusal;
+use paging::{PageResult, Request};
 use patterns::Mark;
 use poly::Generator;
 use records::LONGEST_RECORD;
-
-#[derive(Clone, Copy)]
-pub enum PageAnswer {
-    Paged(PageResult),
-    Refused(Refusal),
-}
+use tables::Tables;
 
 // Condition 8 of a page.
+#[tactic(auto, unfolding(crate::specs::Conditions::unfit_output))]
 fn unfit_output(room: usize) -> bool
     ensures { result ≡ unfit_output room }
 {
@@ -28,74 +26,44 @@ fn unfit_output(room: usize) -> bool
 
 // The conditions of a page, in their order.
 #[tactic(auto, using(tables::proofs::TableLaws::not_wrong))]
-fn judge_page(
-    generator: u64,
-    bits: usize,
-    limit: usize,
-    syndrome: u64,
-    steps: &[u16],
-    firsts: &[u16],
-    mark: Mark,
-    output: &[u8],
-) -> Judgement
-    ensures { judgement result ≡ judged (page_conditions (page_request generator bits limit syndrome steps.now firsts.now output.now) (point_of mark)) }
+fn judge_page(request: Request, tables: Tables, mark: Mark, output: &[u8]) -> Result<(), Refusal>
+    ensures { outcome result ≡ judged (page_conditions (requested_by request tables.entry output.now) (point_of mark)) }
 {
-    if poly::unfit_generator(generator) {
-        return Judgement::Refused(Refusal::Generator);
+    let g = Generator::new(request.generator)?;
+    if packet::unfit_bits(g, request.bits) {
+        return Err(Refusal::Length);
     }
-    let g = Generator::of(generator);
-    if packet::unfit_bits(g, bits) {
-        return Judgement::Refused(Refusal::Length);
+    if patterns::unfit_limit(request.limit) {
+        return Err(Refusal::Limit);
     }
-    if patterns::unfit_limit(limit) {
-        return Judgement::Refused(Refusal::Limit);
+    if patterns::unfit_syndrome(g, request.syndrome) {
+        return Err(Refusal::Syndrome);
     }
-    if patterns::unfit_syndrome(g, syndrome) {
-        return Judgement::Refused(Refusal::Syndrome);
+    if tables::unfit_tables(g, tables.steps.len(), tables.firsts.len()) {
+        return Err(Refusal::TableLength);
     }
-    if tables::unfit_tables(g, steps.len(), firsts.len()) {
-        return Judgement::Refused(Refusal::TableLength);
+    if !verifying::verify(g, tables) {
+        return Err(Refusal::TableEntry);
     }
-    if !verifying::verify(g, steps, firsts) {
-        return Judgement::Refused(Refusal::TableEntry);
-    }
-    if patterns::unfit_mark(mark, bits, limit) {
-        return Judgement::Refused(Refusal::Mark);
+    if patterns::unfit_mark(mark, request.bits, request.limit) {
+        return Err(Refusal::Mark);
     }
     if unfit_output(output.len()) {
-        return Judgement::Refused(Refusal::Output);
+        return Err(Refusal::Output);
     }
-    Judgement::Passed
+    Ok(())
 }
 
 // One page of the list: the records of the listed patterns that follow the mark, as many as fit.
 pub fn page(
-    generator: u64,
-    bits: usize,
-    limit: usize,
-    syndrome: u64,
-    steps: &[u16],
-    firsts: &[u16],
+    request: Request,
+    tables: Tables,
     mark: Mark,
     output: &mut [u8],
-) -> PageAnswer
-    ensures answer { page_answer result ≡ page_call (page_request generator bits limit syndrome steps.now firsts.now output.old) (point_of mark) }
-    ensures bytes { output.new ≡ page_left (page_request generator bits limit syndrome steps.now firsts.now output.old) (point_of mark) }
+) -> Result<PageResult, Refusal>
+    ensures answer { answered page_result result ≡ page_call (requested_by request tables.entry output.old) (point_of mark) }
+    ensures bytes { output.new ≡ page_left (requested_by request tables.entry output.old) (point_of mark) }
 {
-    let judged = judge_page(
-        generator, bits, limit, syndrome, steps, firsts, mark, output,
-    );
-    match judged {
-        Judgement::Refused(r) => PageAnswer::Refused(r),
-        Judgement::Passed => PageAnswer::Paged(paging::list_page(
-            Generator::of(generator),
-            bits,
-            limit,
-            syndrome,
-            steps,
-            firsts,
-            mark,
-            output,
-        )),
-    }
+    judge_page(request, tables, mark, output)?;
+    Ok(paging::list_page(request, tables, mark, output))
 }
