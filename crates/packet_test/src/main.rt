@@ -18,14 +18,9 @@ fn ask(rt: &impl Print, numbers: CrcNumbers, packet: &mut [u8]) -> io::Result<()
 }
 
 fn case(rt: &impl Print, input: &mut Input) -> io::Result<()> {
-    let numbers = CrcNumbers {
-        generator: input.wide(),
-        init: input.wide(),
-        xorout: input.wide(),
-    };
+    let numbers = input.crc_numbers();
     let mut space = [0u8; 1024];
-    let n = space.len().min(input.number() as usize);
-    let packet = &mut space[..n];
+    let packet = input.part(&mut space);
     input.packet(packet);
     ask(rt, numbers, packet)
 }

@@ -60,26 +60,16 @@ fn ask(rt: &impl Print, set: Setting, packet: &[u8], out: &mut [u8]) -> io::Resu
 
 fn case(rt: &impl Print, input: &mut Input, tables: Tables) -> io::Result<()> {
     let set = Setting {
-        numbers: CrcNumbers {
-            generator: input.wide(),
-            init: input.wide(),
-            xorout: input.wide(),
-        },
-        check: checksum::check_of(
-            input.wide() as usize,
-            input.wide() as usize,
-            input.wide() as usize,
-        ),
+        numbers: input.crc_numbers(),
+        check: input.check(),
         limit: input.wide() as usize,
         tables,
     };
     let mut received = [0u8; 1024];
     let mut mended = [0u8; 1024];
-    let n = received.len().min(input.number() as usize);
-    let packet = &mut received[..n];
+    let packet = input.part(&mut received);
     input.packet(packet);
-    let m = mended.len().min(input.number() as usize);
-    let out = &mut mended[..m];
+    let out = input.part(&mut mended);
     ask(rt, set, packet, out)?;
     let first = u64::from(input.number());
     for i in 0..u64::from(input.number()) {

@@ -29,10 +29,10 @@ fn case(rt: &impl Print, text: &mut Input) -> io::Result<()> {
     let columns = text.wide() as usize;
     let mut input = [0u8; 4225];
     let mut output = [0u8; 4225];
-    let n = input.len().min(text.number() as usize);
-    let m = output.len().min(text.number() as usize);
-    testkit::fill(&mut input, text.number());
-    both_ways(rt, rows, columns, &input[..n], &mut output[..m])
+    let input = text.part(&mut input);
+    let output = text.part(&mut output);
+    testkit::fill(input, text.number());
+    both_ways(rt, rows, columns, input, output)
 }
 
 fn main(rt: HostRuntime) -> io::Result<()> {

@@ -5,6 +5,7 @@
 // filled before the call.
 #![tactic(auto)]
 
+use checksum::Check;
 use packet::CrcNumbers;
 use std::io;
 use tables::Tables;
@@ -19,36 +20,35 @@ fn fill_counts(counts: &mut [u32], seed: u32) {
     }
 }
 
-// A line for one simulation: the answer, the hashes of packet and output, and the counts, or their hash if it was refused.
-fn case(rt: &impl Print, input: &mut Input, tables: Tables) -> io::Result<()> {
-    let numbers = CrcNumbers {
-        generator: input.wide(),
-        init: input.wide(),
-        xorout: input.wide(),
-    };
-    let check = checksum::check_of(
-        input.wide() as usize,
-        input.wide() as usize,
-        input.wide() as usize,
-    );
-    let limit = input.wide() as usize;
-    let trials = input.wide();
-    let seed = input.number();
-    let mut packet = [0u8; 1024];
-    let mut output = [0u8; 1024];
-    let mut counts = [0u32; 64];
-    let n = packet.len().min(input.number() as usize);
-    let m = output.len().min(input.number() as usize);
-    let k = counts.len().min(input.number() as usize);
-    let packet = &mut packet[..n];
-    let output = &mut output[..m];
-    let counts = &mut counts[..k];
-    let before = input.number();
-    testkit::fill(packet, before);
-    testkit::fill(output, maker::next_state(before));
-    fill_counts(counts, before);
+// What a call is given, apart from what is lent to it.
+#[derive(Clone, Copy)]
+struct Setting {
+    numbers: CrcNumbers,
+    check: Check,
+    limit: usize,
+    trials: u64,
+    seed: u32,
+}
+
+// One simulation, and a line for it: the answer, the hashes of packet and output, and the counts, or their hash if it was refused.
+fn ask(
+    rt: &impl Print,
+    set: Setting,
+    tables: Tables,
+    packet: &mut [u8],
+    output: &mut [u8],
+    counts: &mut [u32],
+) -> io::Result<()> {
     let answer = simulation::simulate(
-        numbers, seed, check, limit, trials, tables, packet, output, counts,
+        set.numbers,
+        set.seed,
+        set.check,
+        set.limit,
+        set.trials,
+        tables,
+        packet,
+        output,
+        counts,
     );
     let refused = answer.is_err();
     print!(rt; "{} ", Answer(answer))?;
@@ -59,6 +59,27 @@ fn case(rt: &impl Print, input: &mut Input, tables: Tables) -> io::Result<()> {
         testkit::print_numbers(rt, counts)?;
         println!(rt; "")
     }
+}
+
+fn case(rt: &impl Print, input: &mut Input, tables: Tables) -> io::Result<()> {
+    let set = Setting {
+        numbers: input.crc_numbers(),
+        check: input.check(),
+        limit: input.wide() as usize,
+        trials: input.wide(),
+        seed: input.number(),
+    };
+    let mut packet = [0u8; 1024];
+    let mut output = [0u8; 1024];
+    let mut counts = [0u32; 64];
+    let packet = input.part(&mut packet);
+    let output = input.part(&mut output);
+    let counts = input.part(&mut counts);
+    let before = input.number();
+    testkit::fill(packet, before);
+    testkit::fill(output, maker::next_state(before));
+    fill_counts(counts, before);
+    ask(rt, set, tables, packet, output, counts)
 }
 
 fn main(rt: HostRuntime) -> io::Result<()> {

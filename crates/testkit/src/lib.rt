@@ -2,7 +2,9 @@
 #![tactic(auto)]
 
 use base::Refusal;
+use checksum::Check;
 pub use maker::fill;
+use packet::CrcNumbers;
 use patterns::{Pattern, Positions};
 use std::fmt::Display;
 use std::{fmt, io};
@@ -40,6 +42,30 @@ impl<'a> Input<'a> {
         let high = u64::from(self.number());
         let low = u64::from(self.number());
         high << 32 | low
+    }
+
+    // The numbers that a CRC is taken by.
+    pub fn crc_numbers(&mut self) -> CrcNumbers {
+        CrcNumbers {
+            generator: self.wide(),
+            init: self.wide(),
+            xorout: self.wide(),
+        }
+    }
+
+    // The range and the field of a second check.
+    pub fn check(&mut self) -> Check {
+        Check {
+            from: self.wide() as usize,
+            to: self.wide() as usize,
+            field: self.wide() as usize,
+        }
+    }
+
+    // As many elements of a slice as the next number says, or all where there are fewer.
+    pub fn part<'b, T>(&mut self, space: &'b mut [T]) -> &'b mut [T] {
+        let n = space.len().min(self.number() as usize);
+        &mut space[..n]
     }
 
     // A packet's bytes: 0 and a seed, or another number and the bytes themselves.
