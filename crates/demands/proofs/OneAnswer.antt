@@ -3,35 +3,29 @@
 use mathlib.Core.Path.{◌≡◌, refl, sym, ap, ◌∙◌}
 use mathlib.Core.List.{List, [], ◌∷◌}
 use Prim.Native.Nat.{ℕ}
+use Rattle.base.specs.Outcome.{Outcome}
+use Rattle.base.specs.Answers.{answered, outcome}
+use Rattle.base.specs.declared.Refusal.{Refusal}
 use Rattle.base.proofs.RefusalLaws.{number_tells}
 use Rattle.base.proofs.JudgeLaws.{refused_number}
+use Rattle.std.specs.declared.result.Result.{Result}
+use Rattle.std.specs.declared.result.Result.TheVariants.{Ok, Err}
 use Rattle.packet.specs.declared.Crc.{Crc}
-use Rattle.crc.specs.Calls.{remainder_answer, remainder_call, seal_answer, seal_call, seal_packet}
-use Rattle.crc.specs.declared.RemainderAnswer.{RemainderAnswer}
-use Rattle.crc.specs.declared.RemainderAnswer.TheVariants as RemainderAnswer-cases
-use Rattle.crc.specs.declared.SealAnswer.{SealAnswer}
-use Rattle.crc.specs.declared.SealAnswer.TheVariants as SealAnswer-cases
+use Rattle.crc.specs.Calls.{remainder_call, seal_call, seal_packet}
 use Rattle.patterns.specs.Patterns.{positions}
 use Rattle.patterns.specs.declared.Pattern.{Pattern}
 use Rattle.patterns.specs.declared.Pattern.TheVariants.{Empty, One, Two, Three, Four}
 use Rattle.verdicts.specs.Verdicts.{Said, intact, repaired, several, nothing, said}
-use Rattle.repair.specs.Calls.{Repair, repair_answer, repair_call, repair_output}
+use Rattle.repair.specs.Calls.{Repair, repair_call, repair_output}
 use Rattle.verdicts.specs.declared.Verdict.{Verdict}
 use Rattle.verdicts.specs.declared.Verdict.TheVariants.{Intact, Repaired, Several, None}
-use Rattle.repair.specs.declared.RepairAnswer.{RepairAnswer}
-use Rattle.repair.specs.declared.RepairAnswer.TheVariants as RepairAnswer-cases
 
-remainder_tells : (a b : RemainderAnswer) → remainder_answer a ≡ remainder_answer b → a ≡ b
-remainder_tells (RemainderAnswer-cases.Remainder v) (RemainderAnswer-cases.Remainder w) e = ap RemainderAnswer-cases.Remainder cc
-remainder_tells (RemainderAnswer-cases.Refused r) (RemainderAnswer-cases.Refused q) e = ap RemainderAnswer-cases.Refused (number_tells r q (refused_number e))
-remainder_tells (RemainderAnswer-cases.Remainder v) (RemainderAnswer-cases.Refused q) e = cc
-remainder_tells (RemainderAnswer-cases.Refused r) (RemainderAnswer-cases.Remainder w) e = cc
-
-seal_tells : (a b : SealAnswer) → seal_answer a ≡ seal_answer b → a ≡ b
-seal_tells SealAnswer-cases.Sealed SealAnswer-cases.Sealed e = refl
-seal_tells (SealAnswer-cases.Refused r) (SealAnswer-cases.Refused q) e = ap SealAnswer-cases.Refused (number_tells r q (refused_number e))
-seal_tells SealAnswer-cases.Sealed (SealAnswer-cases.Refused q) e = cc
-seal_tells (SealAnswer-cases.Refused r) SealAnswer-cases.Sealed e = cc
+-- an answer is known by its outcome, where a value is known by what is read of it
+answer_tells : {A B : Type 0} (f : A → B) → ((a b : A) → f a ≡ f b → a ≡ b) → (a b : Result A Refusal) → answered f a ≡ answered f b → a ≡ b
+answer_tells f known (Ok v) (Ok w) e = ap Ok (known v w cc)
+answer_tells f known (Err r) (Err q) e = ap Err (number_tells r q (refused_number e))
+answer_tells f known (Ok v) (Err q) e = cc
+answer_tells f known (Err r) (Ok w) e = cc
 
 -- a pattern is known by its positions, and a verdict by what it says
 abbrev pattern_of : List ℕ → Pattern
@@ -60,22 +54,17 @@ verdict_back (Repaired p) = ap Repaired (pattern_back p)
 verdict_back (Several n p) = ap (Several n) (pattern_back p)
 verdict_back None = refl
 
-repair_tells : (a b : RepairAnswer) → repair_answer a ≡ repair_answer b → a ≡ b
-repair_tells (RepairAnswer-cases.Decided v) (RepairAnswer-cases.Decided w) e =
-    let same : said v ≡ said w = cc in
-    ap RepairAnswer-cases.Decided (sym (verdict_back v) ∙ ap verdict_of same ∙ verdict_back w)
-repair_tells (RepairAnswer-cases.Refused r) (RepairAnswer-cases.Refused q) e = ap RepairAnswer-cases.Refused (number_tells r q (refused_number e))
-repair_tells (RepairAnswer-cases.Decided v) (RepairAnswer-cases.Refused q) e = cc
-repair_tells (RepairAnswer-cases.Refused r) (RepairAnswer-cases.Decided w) e = cc
+verdict_tells : (v w : Verdict) → said v ≡ said w → v ≡ w
+verdict_tells v w e = sym (verdict_back v) ∙ ap verdict_of e ∙ verdict_back w
 
-pub one_repair : (r : Repair) (a b : RepairAnswer) (p q : List ℕ) → repair_answer a ≡ repair_call r → p ≡ repair_output r → repair_answer b ≡ repair_call r → q ≡ repair_output r
+pub one_repair : (r : Repair) (a b : Result Verdict Refusal) (p q : List ℕ) → answered said a ≡ repair_call r → p ≡ repair_output r → answered said b ≡ repair_call r → q ≡ repair_output r
     → (a ≡ b) × (p ≡ q)
-one_repair r a b p q before left after left_After = (repair_tells a b (before ∙ sym after), left ∙ sym left_After)
+one_repair r a b p q before left after left_After = (answer_tells said verdict_tells a b (before ∙ sym after), left ∙ sym left_After)
 
 module _ (c : Crc) (s : List ℕ) where
-  pub one_remainder : (a b : RemainderAnswer) → remainder_answer a ≡ remainder_call c s → remainder_answer b ≡ remainder_call c s → a ≡ b
-  one_remainder a b before after = remainder_tells a b (before ∙ sym after)
+  pub one_remainder : (a b : Result ℕ Refusal) → outcome a ≡ remainder_call c s → outcome b ≡ remainder_call c s → a ≡ b
+  one_remainder a b before after = answer_tells (λ v. v) (λ v w e. e) a b (before ∙ sym after)
 
-  pub one_seal : (a b : SealAnswer) (p q : List ℕ) → seal_answer a ≡ seal_call c s → p ≡ seal_packet c s → seal_answer b ≡ seal_call c s → q ≡ seal_packet c s
+  pub one_seal : (a b : Result (Unit {0}) Refusal) (p q : List ℕ) → outcome a ≡ seal_call c s → p ≡ seal_packet c s → outcome b ≡ seal_call c s → q ≡ seal_packet c s
       → (a ≡ b) × (p ≡ q)
-  one_seal a b p q before left after left_After = (seal_tells a b (before ∙ sym after), left ∙ sym left_After)
+  one_seal a b p q before left after left_After = (answer_tells (λ v. v) (λ v w e. e) a b (before ∙ sym after), left ∙ sym left_After)

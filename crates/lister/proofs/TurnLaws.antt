@@ -24,7 +24,7 @@ use Rattle.patterns.proofs.CountLaws.{listing_fits}
 use Rattle.records.proofs.RecordLaws.{patterns_records}
 use Rattle.pages.specs.Conditions.{Request}
 use Rattle.pages.specs.Sequences.{Lending, request_with}
-use Rattle.paging.specs.declared.Request.{Request as Query}
+use Rattle.paging.specs.declared.Query.{Query}
 use Rattle.pages.specs.Calls.{page_call, page_left}
 use Rattle.pages.proofs.PageTheorem.{page_accepts, page_holds, page_next, page_goes_on, page_mark_fits}
 use Rattle.lines.specs.Text.{text_of, end_line}

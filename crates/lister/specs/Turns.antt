@@ -11,7 +11,7 @@ use Rattle.records.specs.Records.{longest_record}
 use Rattle.lines.specs.Text.{text_of, end_line, refused_line, bad_line}
 use Rattle.parsing.specs.Parsing.{numbers_in, whole_line}
 use Rattle.lines.specs.Writing.{Front, line_room}
-use Rattle.paging.specs.declared.Request.{Request}
+use Rattle.paging.specs.declared.Query.{Query}
 use Rattle.lister.specs.declared.Due.{Due}
 use Rattle.lister.specs.declared.Due.TheVariants.{Bad, Refused, Listing}
 use Rattle.lister.specs.declared.Turn.{Turn}
@@ -33,10 +33,10 @@ printed input =
     pick (whole_line 4 input) (printed_for (get_or ns 0 0) (get_or ns 1 0) (get_or ns 2 0) (get_or ns 3 0)) bad_line
 
 -- the list of some settings, and what of it follows a mark
-abbrev pub whole_list : Request → List (List ℕ)
+abbrev pub whole_list : Query → List (List ℕ)
 whole_list s = list_for s.generator s.bits s.limit s.syndrome
 
-abbrev pub ahead : Request → Point → List (List ℕ)
+abbrev pub ahead : Query → Point → List (List ℕ)
 ahead s mark = remaining (whole_list s) mark
 
 -- the text that is due: of a list, what follows the mark, and "end" with the number of these and of those that came before
@@ -46,7 +46,7 @@ text_due (Refused r) = refused_line (number r)
 text_due (Listing s mark count) = text_of (ahead s (point_of mark)) ++ end_line (count + length (ahead s (point_of mark)))
 
 -- the turns that it may take at most: one for the line that closes, and where the mark is not Ended one for each pattern and one more
-abbrev pub turns_for : Request → Point → ℕ
+abbrev pub turns_for : Query → Point → ℕ
 turns_for s start = 2 + length (ahead s start)
 turns_for s ended = 1
 turns_for s (after ps) = 2 + length (ahead s (after ps))
@@ -62,7 +62,7 @@ turns_due (Refused r) = 1
 turns_due (Listing s mark count) = turns_for s (point_of mark)
 
 -- settings that are accepted, a mark that fits them, and the count of the patterns up to it
-pub record Going (s : Request) (mark : Point) (count : ℕ) : Type 0 where
+pub record Going (s : Query) (mark : Point) (count : ℕ) : Type 0 where
   pub clear : judged (list_conditions s.generator s.bits s.limit s.syndrome) ≡ accepted tt
   pub fits : unfit_mark s.bits s.limit mark ≡ false
   pub counted : count + length (ahead s mark) ≡ length (whole_list s)

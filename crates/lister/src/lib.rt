@@ -24,7 +24,7 @@ ghost use Rattle.lister.specs.Turns.{
 };
 
 use base::Refusal;
-use paging::Request;
+use paging::Query;
 use patterns::Mark;
 use poly::Generator;
 use tables::Tables;
@@ -39,7 +39,7 @@ pub const MOST_ENTRIES: usize = 1 << GREATEST_LISTED;
 pub enum Due {
     Bad,
     Refused(Refusal),
-    Listing(Request, Mark, u64),
+    Listing(Query, Mark, u64),
 }
 
 // So many bytes of text; they are the last, or something else is due after them.
@@ -58,33 +58,33 @@ fn unfit_listed(generator: u64) -> bool
 }
 
 // The conditions of the program, in their order.
-fn judge_list(request: Request) -> Result<(), Refusal>
-    ensures { outcome result ≡ judged (list_conditions request.generator request.bits request.limit request.syndrome) }
+fn judge_list(query: Query) -> Result<(), Refusal>
+    ensures { outcome result ≡ judged (list_conditions query.generator query.bits query.limit query.syndrome) }
 {
-    if unfit_listed(request.generator) {
+    if unfit_listed(query.generator) {
         return Err(Refusal::Generator);
     }
-    let g = Generator::of(request.generator);
-    if packet::unfit_bits(g, request.bits) {
+    let g = Generator::of(query.generator);
+    if packet::unfit_bits(g, query.bits) {
         return Err(Refusal::Length);
     }
-    if patterns::unfit_limit(request.limit) {
+    if patterns::unfit_limit(query.limit) {
         return Err(Refusal::Limit);
     }
-    if patterns::unfit_syndrome(g, request.syndrome) {
+    if patterns::unfit_syndrome(g, query.syndrome) {
         return Err(Refusal::Syndrome);
     }
     Ok(())
 }
 
 // What the numbers of a line come to.
-fn ask(request: Request) -> Due
-    ensures text { text_due result ≡ printed_for request.generator request.bits request.limit request.syndrome }
+fn ask(query: Query) -> Due
+    ensures text { text_due result ≡ printed_for query.generator query.bits query.limit query.syndrome }
     ensures sound { Sound result }
 {
-    match judge_list(request) {
+    match judge_list(query) {
         Err(r) => Due::Refused(r),
-        Ok(()) => Due::Listing(request, Mark::Start, 0),
+        Ok(()) => Due::Listing(query, Mark::Start, 0),
     }
 }
 
@@ -98,7 +98,7 @@ fn judge_input(input: &[u8]) -> Due
         return Due::Bad;
     }
     let [generator, bits, limit, syndrome] = numbers;
-    ask(Request {
+    ask(Query {
         generator,
         bits: bits as usize,
         limit: limit as usize,
@@ -133,7 +133,7 @@ pub fn entries(due: Due) -> usize
 {
     match due {
         Due::Bad | Due::Refused(_) => 0,
-        Due::Listing(request, _, _) => table_size(request.generator),
+        Due::Listing(query, _, _) => table_size(query.generator),
     }
 }
 
@@ -142,48 +142,48 @@ pub fn build(due: Due, steps: &mut [u16], firsts: &mut [u16])
     requires { Sound due × (length steps.old ≡ entries_for due) × (length firsts.old ≡ entries_for due) }
     ensures { Tabled due steps.new firsts.new }
 {
-    if let Due::Listing(request, _, _) = due {
+    if let Due::Listing(query, _, _) = due {
         // Nothing of it is unfit, so the answer says nothing new.
-        let _ = tables::tables(request.generator, steps, firsts);
+        let _ = tables::tables(query.generator, steps, firsts);
     }
 }
 
 // The next page of a list, as text.
 fn page_turn(
-    request: Request,
+    query: Query,
     mark: Mark,
     count: u64,
     tables: Tables,
     page: &mut [u8],
     text: &mut [u8],
 ) -> Turn
-    requires { NotEnded (point_of mark) × Going request (point_of mark) count × Tabled (Listing request mark count) tables.steps.now tables.firsts.now × HasRoom page.old text.old }
-    ensures { Turned (Listing request mark count) tables.entry.steps.now tables.entry.firsts.now text.new result }
+    requires { NotEnded (point_of mark) × Going query (point_of mark) count × Tabled (Listing query mark count) tables.steps.now tables.firsts.now × HasRoom page.old text.old }
+    ensures { Turned (Listing query mark count) tables.entry.steps.now tables.entry.firsts.now text.new result }
 {
-    let Ok(p) = pages::page(request, tables, mark, page) else {
+    let Ok(p) = pages::page(query, tables, mark, page) else {
         // Nothing of it is unfit, so this is never said.
         return Turn::Last(0);
     };
     let total = count + p.written;
     let length = lines::page_text(&page[..p.used], text);
-    Turn::More(length, Due::Listing(request, p.next, total))
+    Turn::More(length, Due::Listing(query, p.next, total))
 }
 
 // One turn of a list: a page of it, or the line that closes it.
 fn list_turn(
-    request: Request,
+    query: Query,
     mark: Mark,
     count: u64,
     tables: Tables,
     page: &mut [u8],
     text: &mut [u8],
 ) -> Turn
-    requires { Going request (point_of mark) count × Tabled (Listing request mark count) tables.steps.now tables.firsts.now × HasRoom page.old text.old }
-    ensures { Turned (Listing request mark count) tables.entry.steps.now tables.entry.firsts.now text.new result }
+    requires { Going query (point_of mark) count × Tabled (Listing query mark count) tables.steps.now tables.firsts.now × HasRoom page.old text.old }
+    ensures { Turned (Listing query mark count) tables.entry.steps.now tables.entry.firsts.now text.new result }
 {
     match mark {
         Mark::Ended => Turn::Last(lines::end_line(count, text)),
-        _ => page_turn(request, mark, count, tables, page, text),
+        _ => page_turn(query, mark, count, tables, page, text),
     }
 }
 
@@ -195,8 +195,8 @@ pub fn write_next(due: Due, tables: Tables, page: &mut [u8], text: &mut [u8]) ->
     match due {
         Due::Bad => Turn::Last(lines::bad_line(text)),
         Due::Refused(r) => Turn::Last(lines::refused_line(r, text)),
-        Due::Listing(request, mark, count) => {
-            list_turn(request, mark, count, tables, page, text)
+        Due::Listing(query, mark, count) => {
+            list_turn(query, mark, count, tables, page, text)
         }
     }
 }

@@ -10,7 +10,7 @@ use Rattle.patterns.specs.Listing.{unfit_limit, unfit_syndrome}
 use Rattle.patterns.specs.Marks.{unfit_mark}
 use Rattle.records.specs.Records.{longest_record}
 use Rattle.tables.specs.declared.Tables.{Tables}
-use Rattle.paging.specs.declared.Request.{Request as Asked}
+use Rattle.paging.specs.declared.Query.{Query}
 
 -- what a page call is given, beside its mark
 pub record Request : Type 0 where
@@ -34,9 +34,9 @@ page_request generator bits limit syndrome steps firsts output =
       output = output;
     }
 
--- the same by what a list is asked for by, and tables that are lent
-abbrev pub requested_by : Asked → Tables → List ℕ → Request
-requested_by q t output = page_request q.generator q.bits q.limit q.syndrome t.steps.now t.firsts.now output
+-- the same of a query and tables that are lent
+abbrev pub page_request_by : Query → Tables → List ℕ → Request
+page_request_by q t output = page_request q.generator q.bits q.limit q.syndrome t.steps.now t.firsts.now output
 
 -- condition 8 of a page: fewer bytes than the longest record has
 unfoldable pub unfit_output : ℕ → Bool

@@ -1,2 +1,2 @@
-pub mod Requests
+pub mod Queries
 pub mod Results

@@ -8,7 +8,7 @@ ghost use Rattle.patterns.specs.Marks.{remaining};
 ghost use Rattle.records.specs.Pages.{page_of, page_bytes};
 ghost use Rattle.cursor.specs.Cursors.{Prepared, FoundFits, ahead_of};
 ghost use Rattle.listing.specs.Listings.{Marked, listed_by};
-ghost use Rattle.paging.specs.Requests.{Listable, list_of};
+ghost use Rattle.paging.specs.Queries.{Listable, list_of};
 ghost use Rattle.paging.specs.Results.{page_result};
 
 use cursor::Cursor;
@@ -19,7 +19,7 @@ use tables::Tables;
 
 // What a list is asked for by.
 #[derive(Clone, Copy)]
-pub struct Request {
+pub struct Query {
     pub generator: u64,
     pub bits: usize,
     pub limit: usize,
@@ -75,32 +75,32 @@ fn page_by(cursor: Cursor, mark: Mark, pos: &mut [u16], output: &mut [u8]) -> Pa
 
 // The same by tables that are right: `room` is for a power at each bit.
 fn page_in(
-    request: Request,
+    query: Query,
     tables: Tables,
     mark: Mark,
     room: &mut [u32],
     output: &mut [u8],
 ) -> PageResult
-    requires { Listable request tables (point_of mark) × (request.bits ≤ length room.old) }
-    ensures page { page_result result ≡ page_of (remaining (list_of request) (point_of mark)) (length output.old) }
-    ensures bytes { output.new ≡ page_bytes (remaining (list_of request) (point_of mark)) output.old }
+    requires { Listable query tables (point_of mark) × (query.bits ≤ length room.old) }
+    ensures page { page_result result ≡ page_of (remaining (list_of query) (point_of mark)) (length output.old) }
+    ensures bytes { output.new ≡ page_bytes (remaining (list_of query) (point_of mark)) output.old }
 {
-    let generator = Generator::of(request.generator);
+    let generator = Generator::of(query.generator);
     let cursor = Cursor {
         generator,
-        powers: cursor::prepare(generator, request.bits, tables, room),
-        syndrome: request.syndrome,
+        powers: cursor::prepare(generator, query.bits, tables, room),
+        syndrome: query.syndrome,
     };
     let mut pos = [0u16; MOST_POSITIONS];
-    page_by(cursor, mark, &mut pos[..request.limit], output)
+    page_by(cursor, mark, &mut pos[..query.limit], output)
 }
 
 // The same with room for the powers.
-pub fn list_page(request: Request, tables: Tables, mark: Mark, output: &mut [u8]) -> PageResult
-    requires { Listable request tables (point_of mark) }
-    ensures page { page_result result ≡ page_of (remaining (list_of request) (point_of mark)) (length output.old) }
-    ensures bytes { output.new ≡ page_bytes (remaining (list_of request) (point_of mark)) output.old }
+pub fn list_page(query: Query, tables: Tables, mark: Mark, output: &mut [u8]) -> PageResult
+    requires { Listable query tables (point_of mark) }
+    ensures page { page_result result ≡ page_of (remaining (list_of query) (point_of mark)) (length output.old) }
+    ensures bytes { output.new ≡ page_bytes (remaining (list_of query) (point_of mark)) output.old }
 {
     let mut room = [0u32; MOST_BITS];
-    page_in(request, tables, mark, &mut room, output)
+    page_in(query, tables, mark, &mut room, output)
 }

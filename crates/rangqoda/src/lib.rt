@@ -4,6 +4,7 @@
 
 ghost use Rattle.std.specs.Prelude.{◌≡◌, eqb};
 ghost use Rattle.base.specs.Outcome.{pick};
+ghost use Rattle.base.specs.Answers.{outcome};
 ghost use Rattle.packet.specs.Packet.{crc_of};
 ghost use Rattle.crc.specs.Calls.{remainder_call, seal_call, seal_packet};
 ghost use Rattle.checksum.specs.Checksum.{check_of};
@@ -20,22 +21,42 @@ ghost use Rattle.simulation.specs.Calls.{
   simulate_output,
   simulate_counts,
 };
-ghost use Rattle.scatter.specs.Calls.{block_answer, block_call, scatter_output, gather_output};
+ghost use Rattle.scatter.specs.Calls.{block_call, scatter_output, gather_output};
 ghost use Rattle.codec.specs.Marks.{point_of_bytes};
 ghost use Rattle.codec.specs.Verdicts.{verdict_length, publish_code};
 ghost use Rattle.rangqoda.specs.Codes.{code, changed};
 ghost use Rattle.rangqoda.specs.Pages.{mark_after, used_after, written_after};
 ghost use Rattle.rangqoda.specs.Repairs.{handed, verdict_after, output_after};
 
-use checksum::StampAnswer;
+use base::Refusal;
 use codec::VERDICT_BYTES;
-use crc::{RemainderAnswer, SealAnswer};
-use maker::MakeAnswer;
-use pages::PageAnswer;
-use repair::RepairAnswer;
-use scatter::BlockAnswer;
-use simulation::SimulateAnswer;
-use tables::TablesAnswer;
+use packet::CrcNumbers;
+use paging::Query;
+use tables::Tables;
+
+// The number that a call of this answer returns.
+fn code<T: Copy>(answer: Result<T, Refusal>) -> u32
+    ensures { result ≡ code (outcome answer) }
+{
+    match answer {
+        Ok(_) => 0,
+        Err(refusal) => u32::from(refusal),
+    }
+}
+
+// The same, with the value of an accepted call stored.
+fn store<T: Copy>(answer: Result<T, Refusal>, place: &mut T) -> u32
+    ensures answer { result ≡ code (outcome answer) }
+    ensures place { place.new ≡ changed place.old (λ v. v) (outcome answer) }
+{
+    match answer {
+        Ok(value) => {
+            *place = value;
+            0
+        }
+        Err(refusal) => u32::from(refusal),
+    }
+}
 
 #[unsafe(no_mangle)]
 pub extern "C" fn rangqoda_remainder(
@@ -48,14 +69,12 @@ pub extern "C" fn rangqoda_remainder(
     ensures answer { result ≡ code (remainder_call (crc_of generator init xorout) packet.now) }
     ensures remainder { remainder.new ≡ changed remainder.old (λ v. v) (remainder_call (crc_of generator init xorout) packet.now) }
 {
-    let answer = crc::remainder(generator, init, xorout, packet);
-    match answer {
-        RemainderAnswer::Refused(r) => base::number_of(r),
-        RemainderAnswer::Remainder(v) => {
-            *remainder = v;
-            0
-        }
-    }
+    let numbers = CrcNumbers {
+        generator,
+        init,
+        xorout,
+    };
+    store(crc::remainder(numbers, packet), remainder)
 }
 
 #[unsafe(no_mangle)]
@@ -63,11 +82,12 @@ pub extern "C" fn rangqoda_seal(generator: u64, init: u64, xorout: u64, packet: 
     ensures answer { result ≡ code (seal_call (crc_of generator init xorout) packet.old) }
     ensures packet { packet.new ≡ seal_packet (crc_of generator init xorout) packet.old }
 {
-    let answer = crc::seal(generator, init, xorout, packet);
-    match answer {
-        SealAnswer::Refused(r) => base::number_of(r),
-        SealAnswer::Sealed => 0,
-    }
+    let numbers = CrcNumbers {
+        generator,
+        init,
+        xorout,
+    };
+    code(crc::seal(numbers, packet))
 }
 
 #[unsafe(no_mangle)]
@@ -88,11 +108,8 @@ pub extern "C" fn rangqoda_stamp(
     ensures answer { result ≡ code (stamp_call generator (check_of start end field) packet.old) }
     ensures packet { packet.new ≡ stamp_packet generator (check_of start end field) packet.old }
 {
-    let answer = checksum::stamp(generator, checksum::check_of(start, end, field), packet);
-    match answer {
-        StampAnswer::Refused(r) => base::number_of(r),
-        StampAnswer::Stamped => 0,
-    }
+    let check = checksum::check_of(start, end, field);
+    code(checksum::stamp(generator, check, packet))
 }
 
 #[unsafe(no_mangle)]
@@ -112,14 +129,12 @@ pub extern "C" fn rangqoda_make(
     ensures state { state.new ≡ changed state.old (λ v. v) (make_call (crc_of generator init xorout) seed (check_of start end field) packet.old) }
 {
     let check = checksum::check_of(start, end, field);
-    let answer = maker::make(generator, init, xorout, seed, check, packet);
-    match answer {
-        MakeAnswer::Refused(r) => base::number_of(r),
-        MakeAnswer::Made(v) => {
-            *state = v;
-            0
-        }
-    }
+    let numbers = CrcNumbers {
+        generator,
+        init,
+        xorout,
+    };
+    store(maker::make(numbers, seed, check, packet), state)
 }
 
 #[unsafe(no_mangle)]
@@ -134,24 +149,7 @@ pub extern "C" fn rangqoda_tables(
     ensures first { first.new ≡ firsts_after generator step.old first.old }
     ensures period { period.new ≡ changed period.old (λ v. v) (tables_call generator step.old first.old) }
 {
-    let answer = tables::tables(generator, step, first);
-    match answer {
-        TablesAnswer::Refused(r) => base::number_of(r),
-        TablesAnswer::Built(v) => {
-            *period = v;
-            0
-        }
-    }
-}
-
-// What either way of rearranging a block returns.
-fn block_code(answer: BlockAnswer) -> u32
-    ensures { result ≡ code (block_answer answer) }
-{
-    match answer {
-        BlockAnswer::Refused(r) => base::number_of(r),
-        BlockAnswer::Rearranged => 0,
-    }
+    store(tables::tables(generator, step, first), period)
 }
 
 #[unsafe(no_mangle)]
@@ -164,7 +162,7 @@ pub extern "C" fn rangqoda_scatter(
     ensures answer { result ≡ code (block_call rows columns input.now output.old) }
     ensures output { output.new ≡ scatter_output rows columns input.now output.old }
 {
-    block_code(scatter::scatter(rows, columns, input, output))
+    code(scatter::scatter(rows, columns, input, output))
 }
 
 #[unsafe(no_mangle)]
@@ -177,7 +175,7 @@ pub extern "C" fn rangqoda_gather(
     ensures answer { result ≡ code (block_call rows columns input.now output.old) }
     ensures output { output.new ≡ gather_output rows columns input.now output.old }
 {
-    block_code(scatter::gather(rows, columns, input, output))
+    code(scatter::gather(rows, columns, input, output))
 }
 
 #[unsafe(no_mangle)]
@@ -200,16 +198,24 @@ pub extern "C" fn rangqoda_page(
     ensures written { written.new ≡ written_after written.old (page_call (page_request generator bits limit syndrome step.now first.now output.old) (point_of_bytes mark.old)) }
 {
     let at = codec::read_mark(mark);
-    let answer = pages::page(generator, bits, limit, syndrome, step, first, at, output);
-    match answer {
-        PageAnswer::Refused(r) => base::number_of(r),
-        PageAnswer::Paged(p) => {
-            let next = p.next;
-            *used = p.used;
-            *written = p.written;
-            codec::put_mark(next, mark);
+    let query = Query {
+        generator,
+        bits,
+        limit,
+        syndrome,
+    };
+    let tables = Tables {
+        steps: step,
+        firsts: first,
+    };
+    match pages::page(query, tables, at, output) {
+        Ok(page) => {
+            *used = page.used;
+            *written = page.written;
+            codec::put_mark(page.next, mark);
             0
         }
+        Err(refusal) => u32::from(refusal),
     }
 }
 
@@ -217,10 +223,7 @@ pub extern "C" fn rangqoda_page(
 fn room_for(verdict: usize, output: usize) -> usize
     ensures { result ≡ pick (eqb verdict verdict_length) output 0 }
 {
-    if verdict == VERDICT_BYTES {
-        return output;
-    }
-    0
+    if verdict == VERDICT_BYTES { output } else { 0 }
 }
 
 #[unsafe(no_mangle)]
@@ -243,23 +246,22 @@ pub extern "C" fn rangqoda_repair(
     ensures output { output.new ≡ output_after (handed (crc_of generator init xorout) (check_of start end field) limit step.now first.now packet.now output.old verdict.old) output.old verdict.old }
 {
     let room = room_for(verdict.len(), output.len());
-    let answer = repair::repair(
+    let numbers = CrcNumbers {
         generator,
         init,
         xorout,
-        checksum::check_of(start, end, field),
-        limit,
-        step,
-        first,
-        packet,
-        &mut output[..room],
-    );
-    match answer {
-        RepairAnswer::Refused(r) => base::number_of(r),
-        RepairAnswer::Decided(v) => {
-            codec::put_verdict(v, verdict);
+    };
+    let check = checksum::check_of(start, end, field);
+    let tables = Tables {
+        steps: step,
+        firsts: first,
+    };
+    match repair::repair(numbers, check, limit, tables, packet, &mut output[..room]) {
+        Ok(decided) => {
+            codec::put_verdict(decided, verdict);
             0
         }
+        Err(refusal) => u32::from(refusal),
     }
 }
 
@@ -288,16 +290,19 @@ pub extern "C" fn rangqoda_simulate(
     ensures state { state.new ≡ changed state.old (λ v. v) (simulate_call (simulation (crc_of generator init xorout) seed (check_of start end field) limit trials step.now first.now packet.old output.old counts.old)) }
 {
     let check = checksum::check_of(start, end, field);
+    let numbers = CrcNumbers {
+        generator,
+        init,
+        xorout,
+    };
+    let tables = Tables {
+        steps: step,
+        firsts: first,
+    };
     let answer = simulation::simulate(
-        generator, init, xorout, seed, check, limit, trials, step, first, packet, output, counts,
+        numbers, seed, check, limit, trials, tables, packet, output, counts,
     );
-    match answer {
-        SimulateAnswer::Refused(r) => base::number_of(r),
-        SimulateAnswer::Simulated(after) => {
-            *state = after;
-            0
-        }
-    }
+    store(answer, state)
 }
 
 #[unsafe(no_mangle)]

@@ -36,8 +36,8 @@ repair_request crc check limit steps firsts packet output =
     }
 
 -- the same of the numbers of a CRC and tables that are lent
-abbrev pub requested_by : CrcNumbers → Check → ℕ → Tables → List ℕ → List ℕ → Repair
-requested_by n check limit t packet output = repair_request (crc_of n.generator n.init n.xorout) check limit t.steps.now t.firsts.now packet output
+abbrev pub repair_request_by : CrcNumbers → Check → ℕ → Tables → List ℕ → List ℕ → Repair
+repair_request_by n check limit t packet output = repair_request (crc_of n.generator n.init n.xorout) check limit t.steps.now t.firsts.now packet output
 
 -- condition 8 of a repair: an output that is not as long as the packet
 unfoldable pub unfit_copy : ℕ → ℕ → Bool

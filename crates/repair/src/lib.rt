@@ -10,7 +10,7 @@ ghost use Rattle.verdicts.specs.Verdicts.{said, verdict, output_for};
 ghost use Rattle.verdicts.specs.Settling.{Settleable};
 ghost use Rattle.repair.specs.Settings.{setting_conditions};
 ghost use Rattle.repair.specs.Calls.{
-  requested_by,
+  repair_request_by,
   unfit_check_field,
   repair_conditions,
   repair_call,
@@ -68,7 +68,7 @@ fn judge_repair(
     packet: &[u8],
     output: &[u8],
 ) -> Result<(), Refusal>
-    ensures { outcome result ≡ judged (repair_conditions (requested_by numbers check limit tables.entry packet.now output.now)) }
+    ensures { outcome result ≡ judged (repair_conditions (repair_request_by numbers check limit tables.entry packet.now output.now)) }
 {
     judge_settings(numbers, limit, tables, packet.len())?;
     if output.len() != packet.len() {
@@ -103,8 +103,8 @@ pub fn repair(
     packet: &[u8],
     output: &mut [u8],
 ) -> Result<Verdict, Refusal>
-    ensures answer { answered said result ≡ repair_call (requested_by numbers check limit tables.entry packet.now output.old) }
-    ensures bytes { output.new ≡ repair_output (requested_by numbers check limit tables.entry packet.now output.old) }
+    ensures answer { answered said result ≡ repair_call (repair_request_by numbers check limit tables.entry packet.now output.old) }
+    ensures bytes { output.new ≡ repair_output (repair_request_by numbers check limit tables.entry packet.now output.old) }
 {
     judge_repair(numbers, check, limit, tables, packet, output)?;
     let crc = Crc::from(numbers);

@@ -9,7 +9,7 @@ use Rattle.lister.proofs.ask.Goals as goal
 
 pub returns-in-Ok : goal.returns-in-Ok
 returns-in-Ok c =
-    let r = c.args.request in
+    let r = c.args.query in
     let list = whole_list r in
     let all = remaining_start list in
     let none : 0 + length list ≡ length list = omega arith in

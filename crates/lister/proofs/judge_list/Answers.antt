@@ -6,5 +6,5 @@ use Rattle.lister.proofs.judge_list.Goals as goal
 
 pub unfit_syndrome-requires : goal.unfit_syndrome-requires
 unfit_syndrome-requires c =
-    let g = c.args.request.generator in
+    let g = c.args.query.generator in
     made_fit g (sym (listed_fit g (sym c.unfit_listed.ensures ∙ c.if-unfit_listed.false)).0) refl c.of-g.ensures

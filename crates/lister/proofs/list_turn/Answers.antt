@@ -20,7 +20,7 @@ page_turn-requires c = (not_ended c.args.mark c.in_default.not-Ended, c.requires
 pub returns-in-Ended : goal.returns-in-Ended
 unfolding text_of
 returns-in-Ended c =
-    let none = remaining_ended (whole_list c.args.request) in
+    let none = remaining_ended (whole_list c.args.query) in
     let all : c.args.count + 0 ≡ c.args.count = omega arith in
     let h = c.end_line.ensures in
     (rw (c.in-Ended.is, none, all) (sym (stored_text h.text h.front)), h.front)

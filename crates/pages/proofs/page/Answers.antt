@@ -15,16 +15,16 @@ use Rattle.patterns.specs.Marks.{remaining}
 use Rattle.records.specs.Pages.{page_of, page_bytes}
 use Rattle.patterns.proofs.MarkLaws.{fit_limit, fit_syndrome}
 use Rattle.listing.proofs.MarkedLaws.{fit_mark}
-use Rattle.paging.specs.Requests.{list_of}
-use Rattle.pages.specs.Conditions.{requested_by, page_conditions}
+use Rattle.paging.specs.Queries.{list_of}
+use Rattle.pages.specs.Conditions.{page_request_by, page_conditions}
 use Rattle.pages.proofs.page.Goals as goal
 
 pub list_page-requires : goal.list_page-requires
 list_page-requires c =
-    let q = c.args.request in
+    let q = c.args.query in
     let t = c.args.tables in
     let n : ℕ = degree q.generator in
-    let cs = page_conditions (requested_by q t c.args.output.now) (point_of c.args.mark) in
+    let cs = page_conditions (page_request_by q t c.args.output.now) (point_of c.args.mark) in
     let clear = none_applies cs c.judge_page.ensures c.in_ok-judge_page.was in
     let right = right_unless_wrong n q.generator t.steps.now t.firsts.now (clear 6) in
     record {
@@ -39,8 +39,8 @@ pub returns-in_err-judge_page : goal.returns-in_err-judge_page
 returns-in_err-judge_page c =
     let out = c.args.output.now in
     let m = point_of c.args.mark in
-    let cs = page_conditions (requested_by c.args.request c.args.tables out) m in
-    let rest : List (List ℕ) = remaining (list_of c.args.request) m in
+    let cs = page_conditions (page_request_by c.args.query c.args.tables out) m in
+    let rest : List (List ℕ) = remaining (list_of c.args.query) m in
     let e = c.judge_page.ensures in
     let h = c.in_err-judge_page.was in
     record {

@@ -16,7 +16,7 @@ use Rattle.paging.proofs.page_in.Goals as goal
 pub page_by-requires : goal.page_by-requires
 page_by-requires c =
     let h = c.requires.0 in
-    let r = c.args.request in
+    let r = c.args.query in
     let p = c.prepare in
     let within : r.syndrome < 2 ^ c.of-generator.result.degree = rw c.of-generator.ensures h.within in
     let m = subst₂ (λ (l m : ℕ). Marked l m (point_of c.args.mark) × (m ≤ most_positions)) (sym (as_long p.ensures)) (sym (length-take-le _ _ h.few)) (h.marked, h.few) in
@@ -25,7 +25,7 @@ page_by-requires c =
 pub returns : goal.returns
 returns c =
     let a = c.args in
-    let r = a.request in
+    let r = a.query in
     let g = c.of-generator.result in
     let e =
     ap₂ (λ (l m : ℕ). remaining (listing g.degree g.coefficients l m r.syndrome) (point_of a.mark)) (as_long c.prepare.ensures) (length-take-le _ _ c.requires.0.few)

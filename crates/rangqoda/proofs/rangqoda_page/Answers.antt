@@ -9,4 +9,4 @@ pub put_mark-requires : goal.put_mark-requires
 put_mark-requires c =
     let a = c.args in
     let request = page_request a.generator a.bits a.limit a.syndrome a.step.now a.first.now a.output.now in
-    accepted_long request a.mark.now (c.in-Paged.ensures.answer ∙ ap (page_call request) c.read_mark-at.ensures)
+    accepted_long request a.mark.now (c.in-Ok.ensures.answer ∙ ap (page_call request) c.read_mark-at.ensures)

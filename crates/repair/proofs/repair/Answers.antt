@@ -15,7 +15,7 @@ use Rattle.checksum.proofs.ConditionLaws.{fit_range}
 use Rattle.tables.proofs.TableLaws.{right_unless_wrong}
 use Rattle.patterns.proofs.MarkLaws.{fit_limit}
 use Rattle.verdicts.specs.Verdicts.{verdict, output_for}
-use Rattle.repair.specs.Calls.{requested_by, repair_conditions}
+use Rattle.repair.specs.Calls.{repair_request_by, repair_conditions}
 use Rattle.repair.proofs.ConditionLaws.{fit_copy, fit_check_field}
 use Rattle.repair.proofs.repair.Goals as goal
 
@@ -27,7 +27,7 @@ repair_by-requires c =
     let n : ℕ = degree k.generator in
     let p = a.packet.now in
     let b : Bytes p = λ i. omega (arith, c.type_inv.packet i) in
-    let r = requested_by k a.check a.limit t p a.output.now in
+    let r = repair_request_by k a.check a.limit t p a.output.now in
     let clear = none_applies (repair_conditions r) c.judge_repair.ensures c.in_ok-judge_repair.was in
     let right = right_unless_wrong n k.generator t.steps.now t.firsts.now (clear 6) in
     let readable = fit_readable k.generator k.init k.xorout p (clear 1) (clear 2) (clear 11) in
@@ -49,7 +49,7 @@ repair_by-requires c =
 pub returns-in_err-judge_repair : goal.returns-in_err-judge_repair
 returns-in_err-judge_repair c =
     let a = c.args in
-    let r = requested_by a.numbers a.check a.limit a.tables a.packet.now a.output.now in
+    let r = repair_request_by a.numbers a.check a.limit a.tables a.packet.now a.output.now in
     let e = c.judge_repair.ensures in
     let h = c.in_err-judge_repair.was in
     record {
