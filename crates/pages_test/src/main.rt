@@ -5,7 +5,7 @@
 // most how many calls. Generators, lengths, limits and syndromes are given by their high and low 32 bits.
 #![tactic(auto)]
 
-use paging::Request;
+use paging::Query;
 use patterns::{MOST_POSITIONS, Mark};
 use std::io;
 use tables::Tables;
@@ -39,10 +39,10 @@ struct Run {
 
 impl Run {
     // One page call at the mark reached. A refused call leaves the mark, and its whole output stays.
-    fn call(&mut self, request: Request, tables: Tables, out: &mut [u8]) {
+    fn call(&mut self, query: Query, tables: Tables, out: &mut [u8]) {
         testkit::fill(out, 1);
         self.calls = self.calls.wrapping_add(1);
-        match pages::page(request, tables, self.mark, out) {
+        match pages::page(query, tables, self.mark, out) {
             Ok(page) => {
                 let n = page.used.min(out.len());
                 self.mark = page.next;
@@ -58,10 +58,10 @@ impl Run {
     }
 
     // Calls until the list has ended, each at the mark that the one before left.
-    fn sequence(&mut self, request: Request, tables: Tables, plan: Plan, space: &mut [u8]) {
+    fn sequence(&mut self, query: Query, tables: Tables, plan: Plan, space: &mut [u8]) {
         for call in 0..plan.calls {
             let n = plan.room(call).min(space.len());
-            self.call(request, tables, &mut space[..n]);
+            self.call(query, tables, &mut space[..n]);
             if matches!(self.mark, Mark::Ended) {
                 self.ended = self.ended.wrapping_add(1);
                 return;
@@ -103,7 +103,7 @@ fn print_run(rt: &impl Print, run: Run) -> io::Result<()> {
 
 // A sequence from the same mark for each of several syndromes, with the hashes and sums carried on.
 fn case(rt: &impl Print, input: &mut Input, tables: Tables) -> io::Result<()> {
-    let request = Request {
+    let query = Query {
         generator: input.wide(),
         bits: input.wide() as usize,
         limit: input.wide() as usize,
@@ -127,12 +127,12 @@ fn case(rt: &impl Print, input: &mut Input, tables: Tables) -> io::Result<()> {
     };
     let mut space = [0u8; 4096];
     for k in 0..syndromes {
-        let syndrome = request.syndrome.wrapping_add(k);
+        let syndrome = query.syndrome.wrapping_add(k);
         run.mark = mark;
         run.sequence(
-            Request {
+            Query {
                 syndrome,
-                ..request
+                ..query
             },
             tables,
             plan,
