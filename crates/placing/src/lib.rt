@@ -1,5 +1,6 @@
 // Positions placed one after the other, so that their powers have a given sum: all but the last are forced, and the last is looked
-// up. Contracts hold for any powers that the two tables describe.
+// up. Contracts hold for any powers that the two tables describe. There is no heap: what is found is left in a lent slice, `pos`, and
+// the answer is a flag that says whether anything is.
 #![tactic(auto)]
 
 ghost use Rattle.std.specs.Prelude.{◌≡◌, ◌≤◌, length};

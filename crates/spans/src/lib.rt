@@ -1,6 +1,6 @@
 // Sets of two positions or more whose powers have a given sum, by their ends: the first of one span, and the first that follows a set
 // between the same ends. The ends are gone through, and the positions between them are placed. Contracts hold for any powers that
-// the tables describe.
+// the tables describe. What is found is left in `pos`, and a flag says whether anything is, as in placing.
 #![tactic(auto)]
 
 ghost use Rattle.std.specs.Prelude.{◌≡◌, ◌-◌, ◌<◌, ◌≤◌, length};

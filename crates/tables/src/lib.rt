@@ -72,7 +72,7 @@ pub fn period_of(g: Generator, tables: Tables) -> u64
     tables.firsts[t] as u64 + 1
 }
 
-// Fills both tables, and yields the period.
+// Fills both tables, and yields the period. They are two slices here, since `Tables` only lends them to read.
 fn build(g: Generator, steps: &mut [u16], firsts: &mut [u16]) -> u64
     requires { Lent g steps.old × Lent g firsts.old }
     ensures value { result ≡ period g.degree g.coefficients }

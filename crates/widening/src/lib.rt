@@ -1,5 +1,6 @@
 // The sets of one count whose powers have a given sum, in the list's order: the first, and the first that follows a set. Sets of two
 // positions or more go by their spans, the narrowest first. Contracts hold for any powers that the tables describe.
+// What is found is left in `pos`, and a flag says whether anything is, as in placing.
 #![tactic(auto)]
 
 ghost use Rattle.std.specs.Prelude.{ℕ, ◌-◌, ◌≤◌, length};
