@@ -61,8 +61,8 @@ module _ (power : ℕ → ℕ) (l most u : ℕ) where
         }
     first_among least None pos none = λ x m. missed (length x) (none (length x) m.enough m.within) x (of_count m)
 
-    pub risen_among : {least : ℕ} {r : Option ℕ} {pos : List ℕ} → Risen S least most r pos → FindsAt before (Among power l least most u) r pos
-    risen_among {least} {r} {pos} f = first_among least r pos f.first
+    pub risen_among : {least m : ℕ} {r : Option ℕ} {pos : List ℕ} → m ≡ most → Risen S least m r pos → FindsAt before (Among power l least most u) r pos
+    risen_among {least} {r = r} {pos = pos} e f = first_among least r pos (rw e at f.first)
 
   -- ---- after a set q: more of its count, and then the counts above it ----
 

@@ -38,5 +38,5 @@ returns c =
       next = λ power t.
           let none : (y : List ℕ) → Behind (Summing power l c.args.count 0 c.args.syndrome) q y → ⊥ = rw (c.if-next_or_skip.false, e) at (p.ensures power t) in
           later_miss power l n c.args.syndrome q c.args.count e c.requires.1 none _ (omega arith) c.rise.result c.rise.new.pos
-          (rw w at (risen_among power l _ c.args.syndrome (λ xs r ys k. rw (← k.shows, ← k.leaves) (search rules)) c.rise.ensures));
+          (risen_among power l n c.args.syndrome (λ xs r ys k. rw (← k.shows, ← k.leaves) (search rules)) w c.rise.ensures);
     }
