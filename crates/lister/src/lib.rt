@@ -195,8 +195,6 @@ pub fn write_next(due: Due, tables: Tables, page: &mut [u8], text: &mut [u8]) ->
     match due {
         Due::Bad => Turn::Last(lines::bad_line(text)),
         Due::Refused(r) => Turn::Last(lines::refused_line(r, text)),
-        Due::Listing(query, mark, count) => {
-            list_turn(query, mark, count, tables, page, text)
-        }
+        Due::Listing(query, mark, count) => { list_turn(query, mark, count, tables, page, text) }
     }
 }

@@ -1,6 +1,6 @@
 // The sets whose powers have a given sum, in the list's order: the first, and the first that follows a set, count by count. Counts that
 // parity rules out are skipped. Contracts hold for any powers that the tables describe. What is found is left in
-// `pos`, and a flag says whether anything is, as in placing.
+// `pos`, as in placing.
 #![tactic(auto)]
 
 ghost use Rattle.std.specs.Prelude.{◌≤◌, length, take};

@@ -129,15 +129,7 @@ fn case(rt: &impl Print, input: &mut Input, tables: Tables) -> io::Result<()> {
     for k in 0..syndromes {
         let syndrome = query.syndrome.wrapping_add(k);
         run.mark = mark;
-        run.sequence(
-            Query {
-                syndrome,
-                ..query
-            },
-            tables,
-            plan,
-            &mut space,
-        );
+        run.sequence(Query { syndrome, ..query }, tables, plan, &mut space);
     }
     print_run(rt, run)
 }

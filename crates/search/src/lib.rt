@@ -1,6 +1,6 @@
 // The search for the first set that is met, and for the first after one: count by count, and within a count by the
 // placing of positions. Counts that parity rules out are skipped; of the generator only its number of ones is asked. Contracts hold
-// for any powers that the two tables describe. What is found is left in `pos`, and a flag says whether anything is, as in placing.
+// for any powers that the two tables describe. What is found is left in `pos`, as in placing.
 #![tactic(auto)]
 
 ghost use Rattle.std.specs.Prelude.{◌≡◌, ℕ, ◌+◌, ◌-◌, ◌≤◌, length, take};
