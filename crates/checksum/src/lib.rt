@@ -25,7 +25,8 @@ use base::Refusal;
 use poly::Generator;
 
 // What the second check is taken by: the bytes of the packet from `from` on and before `to`, and the field, whose first byte
-// is at `field`. Where `from` and `to` are equal there is no second check, and `field` is not looked at.
+// is at `field`. Where `from` and `to` are equal there is no second check, and `field` is not looked at: the calls
+// take three numbers, which conditions 9 and 10 are about, and no Option.
 #[derive(Clone, Copy)]
 pub struct Check {
     pub from: usize,
@@ -61,7 +62,7 @@ fn add_word(sum: u16, word: u16) -> u16
     t + u16::from(carry)
 }
 
-// The sum of bytes, in one pass over their words.
+// The sum of bytes, in one pass over their words, by their places: chunks of two take longer.
 #[tactic(auto, using(crate::proofs::SumLaws::sum_start, crate::proofs::SumLaws::sum_turn, crate::proofs::SumLaws::sum_past))]
 pub fn sum(s: &[u8]) -> u16
     ensures { result ≡ sum_call s.now }

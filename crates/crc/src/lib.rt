@@ -20,7 +20,7 @@ use packet::{Crc, CrcNumbers};
 use poly::Generator;
 use remainders::remainder_of;
 
-// XORs a number into the packet's last bytes.
+// XORs a number into the packet's last bytes. By index: of bytes written through `iter_mut` from the back a proof knows nothing.
 fn add_low(packet: &mut [u8], value: u64)
     requires { Bytes packet.old }
     ensures { packet.new ≡ bytes_of (length packet.old) (bit_xor (polynomial packet.old) value) }

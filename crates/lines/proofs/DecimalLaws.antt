@@ -5,8 +5,6 @@ use Prim.Native.Nat.{ℕ, zero, suc, ◌+◌, ◌-◌, ◌*◌, ◌/◌, ◌%◌
 use native.Mathlib.Omega.{arith}
 use lib.ListN.{length, get_or, length-append, get_or-append}
 use borrow.Author.Tests.{lt-ltb, le-ltb}
-use Rattle.std.specs.Fmt.{decimal as std_decimal}
-use Rattle.std.proofs.lemmas.Fmt.{decimal_digit as std_decimal_digit, decimal_step as std_decimal_step}
 use Rattle.base.specs.Lists.{All, none, each}
 use Rattle.base.proofs.Cases.{by_order}
 use Rattle.parsing.specs.Input.{Digit, value_from, value_of}
@@ -113,10 +111,3 @@ two_bytes_fit {v} to h k = omega (arith, digits_u16 v (omega arith))
 
 pub digits_u64 : (v : ℕ) → v < 2 ^ 64 → length (decimal v) ≤ 20
 digits_u64 v h = decimal-length 19 v (omega arith)
-
--- it is what std prints of a number of 64 bits
-pub printed_decimal : (v : ℕ) → v < 2 ^ 64 → std_decimal v ≡ decimal v
-printed_decimal =
-    by_tens (λ (v : ℕ). v < 2 ^ 64 → std_decimal v ≡ decimal v)
-    (λ v l h. std_decimal_digit v l ∙ sym (decimal_small v l))
-    (λ v l ih h. std_decimal_step v l h ∙ ap (λ (ds : List ℕ). ds ++ ((48 + v % 10) ∷ [])) (ih (omega arith)) ∙ sym (decimal_step v l))

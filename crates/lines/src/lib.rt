@@ -9,7 +9,6 @@ ghost use Rattle.lines.specs.Text.{spaced, line_of, text_of, end_line, refused_l
 ghost use Rattle.lines.specs.Writing.{Stored, Front, line_room};
 
 use base::Refusal;
-use itoa::Buffer;
 
 // Writes a text from `to` on, and answers the place after it.
 fn text_at(text: &[u8], out: &mut [u8], to: usize) -> usize
@@ -21,14 +20,19 @@ fn text_at(text: &[u8], out: &mut [u8], to: usize) -> usize
     end
 }
 
-// Writes v in decimal from `to` on, and answers the place after it.
-#[tactic(auto, using(crate::proofs::DecimalLaws::printed_decimal))]
+// Writes v in decimal from `to` on, and answers the place after it. It is written digit by digit, since std formats to a handle or into
+// a heap, and no other library is trusted.
 fn decimal_at(v: u64, out: &mut [u8], to: usize) -> usize
     requires { to + length (decimal v) ≤ length out.old }
     ensures { Stored out.old to (decimal v) result out.new }
 {
-    let mut digits = Buffer::new();
-    text_at(digits.format(v).as_bytes(), out, to)
+    if v < 10 {
+        out[to] = b'0' + v as u8;
+        return to + 1;
+    }
+    let last = decimal_at(v / 10, out, to);
+    out[last] = b'0' + (v % 10) as u8;
+    last + 1
 }
 
 // The position that two bytes give.

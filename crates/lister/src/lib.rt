@@ -42,7 +42,7 @@ pub enum Due {
     Listing(Query, Mark, u64),
 }
 
-// So many bytes of text; they are the last, or something else is due after them.
+// So many bytes of text; they are the last, or something else is due after them. Two cases, for the program asks which.
 #[derive(Clone, Copy)]
 pub enum Turn {
     Last(usize),

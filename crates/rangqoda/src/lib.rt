@@ -219,7 +219,8 @@ pub extern "C" fn rangqoda_page(
     }
 }
 
-// How much of an output may be written, by the place that there is for the verdict.
+// How much of an output may be written, by the place that there is for the verdict: none without it, so that the repair refuses by
+// condition 8, in its place among the conditions.
 fn room_for(verdict: usize, output: usize) -> usize
     ensures { result ≡ pick (eqb verdict verdict_length) output 0 }
 {

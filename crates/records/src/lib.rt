@@ -10,7 +10,8 @@ use patterns::MOST_POSITIONS;
 // The bytes of the longest record.
 pub const LONGEST_RECORD: usize = 1 + 2 * MOST_POSITIONS;
 
-// The record of some positions, into an output from the byte `at` on; the answer is the place behind it.
+// The record of some positions, into an output from the byte `at` on; the answer is the place behind it. The place is
+// counted, since of bytes written through chunks a proof knows nothing.
 pub fn put_record(pos: &[u16], out: &mut [u8], at: usize) -> usize
     requires { (length pos.now < 256) × (at + (1 + 2 * length pos.now) ≤ length out.old) }
     ensures { RecordPut pos.now out.old at out.new result }

@@ -62,7 +62,8 @@ fn judge_block(rows: usize, columns: usize, input: usize, output: usize) -> Resu
     Ok(())
 }
 
-// Reads one column of the rows into its place in the output, behind those that were read before it.
+// Reads one column of the rows into its place in the output, behind those that were read before it. By index: of bytes written
+// through `iter_mut` with a zip, or through chunks, a proof knows nothing.
 fn read_column(rows: usize, columns: usize, column: usize, input: &[u8], output: &mut [u8])
     requires { Block rows columns input.now × (column < columns) × Part (scattered rows columns input.now) (column * rows) output.old }
     ensures { Part (scattered rows columns input.now) (column * rows + rows) output.new }

@@ -42,7 +42,8 @@ fn right_evens(firsts: &[u16]) -> bool
     wrong == 0
 }
 
-// The same for the odd places above 1, whose step is their half plus that of the generator. Chunks are no faster here.
+// The same for the odd places above 1, whose step is their half plus that of the generator. By index too: the other entry
+// stands at `k ^ half`, and chunks were no faster.
 fn right_odds(g: Generator, firsts: &[u16]) -> bool
     requires { Lent g firsts.now }
     ensures { IsTrue result ↔ OddRuled (g.coefficients / 2) firsts.now }

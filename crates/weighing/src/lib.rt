@@ -35,7 +35,7 @@ struct Part<'a> {
     to: usize,
 }
 
-// The plain total of the words of bytes, with no carry folded.
+// The plain total of the words of bytes, with no carry folded, by their places as `checksum::sum`.
 #[tactic(auto, using(checksum::proofs::SumLaws::total_turn, checksum::proofs::SumLaws::total_past))]
 fn total_of(s: &[u8]) -> u64
     requires { length s.now ≤ 512 }

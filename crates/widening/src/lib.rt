@@ -12,7 +12,7 @@ use placing::Powers;
 
 // A span from `span` on, before which no set has one: of pairs the least that some pair has, and of larger sets `span` itself. Most spans
 // have no pair, and to try each would be slow. So one pass finds the nearest partner of each position, and it ends early where that is
-// at the distance `span` itself.
+// at the distance `span` itself. Where none is left the answer is the length, a span that no set has.
 fn next_span(powers: Powers, span: usize, u: usize, count: usize) -> usize
     requires { ReadyFor powers 0 u × (2 ≤ count) × (span ≤ length powers.powers.now) }
     ensures bounds { (span ≤ result) × (result ≤ length powers.entry.powers.now) }
