@@ -19,12 +19,19 @@ const MULTIPLIER: u32 = 1664525;
 
 const INCREMENT: u32 = 1013904223;
 
+// a * b, modulo 2^32.
+fn wrapping_mul(a: u32, b: u32) -> u32
+    ensures { result ≡ a * b % 2 ^ 32 }
+{
+    (a as u64 * b as u64 % 4294967296) as u32
+}
+
 // The state after this one.
 #[tactic(auto, unfolding(crate::specs::Stream::next_state))]
 pub fn next_state(state: u32) -> u32
     ensures { result ≡ next_state state }
 {
-    MULTIPLIER.wrapping_mul(state).wrapping_add(INCREMENT)
+    wrapping_mul(MULTIPLIER, state).wrapping_add(INCREMENT)
 }
 
 // The byte that a state yields: its top eight bits.

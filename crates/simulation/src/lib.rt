@@ -93,13 +93,13 @@ fn simulate_by(
 {
     let mut room = [0u32; MOST_BITS];
     let mut pos = [0u16; MOST_FLIPS];
-    let mut rows = [[0u32; COLUMNS]; ROWS];
+    let before = [[0u32; COLUMNS]; ROWS];
     let mut state = seed;
     let powers = cursor::prepare(settings.crc.generator, 8 * packet.len(), tables, &mut room);
-    trials::run_rows(
-        settings, powers, count, &mut rows, &mut state, &mut pos, packet, output,
+    let rows = trials::run_rows(
+        settings, powers, count, before, &mut state, &mut pos, packet, output,
     );
-    trials::put_rows(&rows, counts);
+    trials::put_rows(rows, counts);
     state
 }
 

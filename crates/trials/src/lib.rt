@@ -1,4 +1,4 @@
-// Trials: a packet is made, bits of it flip, and what a repair says of it is counted.
+// Trials: a packet is made, bits of it flip, and what a repair says of it is counted, in an array of rows that is passed on by value.
 #![tactic(auto)]
 
 ghost use Rattle.std.specs.Prelude.{◌≡◌, List, ℕ, suc, ◌*◌, ◌<◌, ◌≤◌, length};
@@ -124,11 +124,13 @@ fn run_trial(
 
 // One count more, in a row and a column.
 #[tactic(auto, unfolding(crate::specs::Trials::counted))]
-fn count_in(rows: &mut Rows, row: usize, column: Column)
-    requires { (row < 9) × Within rows.old 4294967294 }
-    ensures { rows.new ≡ counted row (place column) rows.old }
+fn count_in(rows: Rows, row: usize, column: Column) -> Rows
+    requires { (row < 9) × Within rows 4294967294 }
+    ensures { result ≡ counted row (place column) rows }
 {
-    rows[row][column.place()] += 1;
+    let mut next = rows;
+    next[row][column.place()] += 1;
+    next
 }
 
 // So many trials with as many flips as there is room for positions. The state runs on.
@@ -136,20 +138,23 @@ fn run_row(
     settings: Settings,
     powers: Powers,
     count: u64,
-    rows: &mut Rows,
+    before: Rows,
     state: &mut u32,
     flipped: &mut [u16],
     packet: &mut [u8],
     output: &mut [u8],
-)
-    requires { Runnable settings powers (length packet.old) (length output.old) × (length flipped.old ≤ most_flips) × (count ≤ 65535) × Within rows.old (length flipped.old * count) }
-    ensures trials { tried state.new packet.new output.new rows.new ≡ trials settings.crc settings.check settings.limit (length flipped.old) count (tried state.old packet.old output.old rows.old) }
-    ensures within { Within rows.new (suc (length flipped.old) * count) }
+) -> Rows
+    requires { Runnable settings powers (length packet.old) (length output.old) × (length flipped.old ≤ most_flips) × (count ≤ 65535) × Within before (length flipped.old * count) }
+    ensures trials { tried state.new packet.new output.new result ≡ trials settings.crc settings.check settings.limit (length flipped.old) count (tried state.old packet.old output.old before) }
+    ensures within { Within result (suc (length flipped.old) * count) }
 {
+    let mut rows = before;
     for _ in 0..count {
         let column = run_trial(settings, powers, state, flipped, packet, output);
-        count_in(rows, flipped.len(), column);
+        let next = count_in(rows, flipped.len(), column);
+        rows = next;
     }
+    rows
 }
 
 // So many trials with each number of flips, from none on; `pos` has room for the most.
@@ -157,17 +162,18 @@ pub fn run_rows(
     settings: Settings,
     powers: Powers,
     count: u64,
-    rows: &mut Rows,
+    before: Rows,
     state: &mut u32,
     pos: &mut [u16],
     packet: &mut [u8],
     output: &mut [u8],
-)
-    requires { Runnable settings powers (length packet.old) (length output.old) × (length pos.old ≡ most_flips) × (count ≤ 65535) × Within rows.old 0 }
-    ensures { tried state.new packet.new output.new rows.new ≡ rows_of settings.crc settings.check settings.limit count (suc most_flips) 0 (tried state.old packet.old output.old rows.old) }
+) -> Rows
+    requires { Runnable settings powers (length packet.old) (length output.old) × (length pos.old ≡ most_flips) × (count ≤ 65535) × Within before 0 }
+    ensures { tried state.new packet.new output.new result ≡ rows_of settings.crc settings.check settings.limit count (suc most_flips) 0 (tried state.old packet.old output.old before) }
 {
+    let mut rows = before;
     for flips in 0..ROWS {
-        run_row(
+        let next = run_row(
             settings,
             powers,
             count,
@@ -177,13 +183,15 @@ pub fn run_rows(
             packet,
             output,
         );
+        rows = next;
     }
+    rows
 }
 
 // The counts of all rows, one behind the other.
-pub fn put_rows(rows: &Rows, counts: &mut [u32])
+pub fn put_rows(rows: Rows, counts: &mut [u32])
     requires { length counts.old ≡ counts_length }
-    ensures { counts.new ≡ joined_rows rows.now }
+    ensures { counts.new ≡ joined_rows rows }
 {
     counts.copy_from_slice(rows.as_flattened());
 }

@@ -6,7 +6,7 @@ use Rattle.simulation.proofs.simulate_by.Goals as goal
 pub returns : goal.returns
 unfolding simulated
 returns c =
-    let e = c.run_rows.ensures in
+    let e = c.run_rows-rows.ensures in
     record {
       state = ap (λ (t : Tried). t.state) e;
       packet = ap (λ (t : Tried). t.packet) e;

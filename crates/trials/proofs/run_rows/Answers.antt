@@ -10,7 +10,7 @@ pub loop-flips-preserved : goal.loop-flips-preserved
 loop-flips-preserved c =
     let i = c.loop-flips in
     let lent : length (take i.flips i.pos) ≡ i.flips = length-take-le i.flips i.pos (omega arith) in
-    let row = c.run_row.ensures in
+    let row = c.run_row-next.ensures in
     rows_run_more _ _ _ _ i.invariant (omega arith) (rw lent at row.trials, rw lent at row.within)
 
 pub returns : goal.returns

@@ -1,0 +1,9 @@
+-- `wrapping_mul` takes the whole product, which 64 bits hold, and then what is left modulo 2^32.
+use Rattle.std.proofs.Common.{◌≤◌, mul-le-mul, arith}
+use Rattle.maker.proofs.wrapping_mul.Goals as goal
+
+pub overflow_mul-result : goal.overflow_mul-result
+overflow_mul-result c =
+    let a : c.args.a ≤ 4294967295 = omega arith in
+    let b : c.args.b ≤ 4294967295 = omega arith in
+    omega (arith, mul-le-mul a b)
