@@ -24,12 +24,15 @@ fn below(taken: &[u16], place: usize) -> usize
     taken.len()
 }
 
-// Puts a position in at an index. Those from there on move up by one, over the last.
+// Puts a position in at an index. Those from there on move up by one, over the last, each by itself: the library's `rotate_right` would have
+// an archive for C ask for memmove.
 fn insert(pos: &mut [u16], at: usize, p: u16)
     requires { at < length pos.old }
     ensures { let kept = take (length pos.old - 1) pos.old in pos.new ≡ take at kept ++ p ∷ drop at kept }
 {
-    pos[at..].rotate_right(1);
+    for i in (at + 1..pos.len()).rev() {
+        pos[i] = pos[i - 1];
+    }
     pos[at] = p;
 }
 

@@ -77,12 +77,22 @@ fn settle(settings: Settings, powers: Powers, packet: &[u8]) -> Verdict
     Verdict::from(tallies::tally_all(cursor, limit, weighed))
 }
 
+// Copies a packet, byte by byte: the library's `copy_from_slice` would have an archive for C ask for memmove.
+fn copy_to(packet: &[u8], output: &mut [u8])
+    requires { length output.old ≡ length packet.now }
+    ensures { output.new ≡ packet.now }
+{
+    for i in 0..packet.len() {
+        output[i] = packet[i];
+    }
+}
+
 // Writes the packet with a pattern's bits flipped.
 fn mend(packet: &[u8], p: Pattern, output: &mut [u8])
     requires { (length output.old ≡ length packet.now) × All (λ (q : ℕ). q < bits packet.now) (positions p) }
     ensures { output.new ≡ flips packet.now (positions p) }
 {
-    output.copy_from_slice(packet);
+    copy_to(packet, output);
     let held = Positions::of(p);
     packet::flip_bits(output, held.as_slice());
 }

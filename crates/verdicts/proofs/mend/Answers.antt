@@ -2,4 +2,4 @@
 use Rattle.verdicts.proofs.mend.Goals as goal
 
 pub flip_bits-requires : goal.flip_bits-requires
-flip_bits-requires c = rw (c.copy_from_slice.ensures.after, c.as_slice.ensures, c.of-held.ensures) c.requires.1
+flip_bits-requires c = rw (c.copy_to.ensures, c.as_slice.ensures, c.of-held.ensures) c.requires.1
