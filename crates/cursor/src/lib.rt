@@ -21,7 +21,7 @@ pub struct Cursor<'a> {
 }
 
 // The powers of x below the slice's length, by their remainders.
-fn fill_powers(g: Generator, room: &mut [u32])
+pub fn fill_powers(g: Generator, room: &mut [u32])
     requires { Fit g }
     ensures { room.new ≡ values (power g.degree g.coefficients) (length room.old) 0 }
 {

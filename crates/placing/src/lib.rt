@@ -52,7 +52,21 @@ impl<'a> Powers<'a> {
         if p < end { Some(p) } else { None }
     }
 
-    // The same below the length of the powers.
+    // The same, for a loop in which `end` moves: that none is below the first position comes before all else, since the compiler finds
+    // no test so short in the two above.
+    #[inline(always)]
+    pub fn seldom_below(self, lo: usize, end: usize, u: usize) -> Option<usize>
+        requires { ReadyFor self lo u × (lo ≤ end) × (end ≤ length self.powers.now) }
+        ensures { NearestFound self.entry end lo u result }
+    {
+        let f = self.firsts[u] as usize;
+        if end <= f {
+            return None;
+        }
+        self.nearest_below(lo, end, u)
+    }
+
+    // `nearest_below` the length of the powers.
     pub fn nearest(self, lo: usize, u: usize) -> Option<usize>
         requires { ReadyFor self lo u }
         ensures { NearestFound self.entry (length self.entry.powers.now) lo u result }
@@ -115,9 +129,11 @@ impl<'a> Powers<'a> {
         }
     }
 
-    // Goes on from two positions. It is `resume` for two, and spelt out since a repair does it for each set.
+    // Goes on from two positions. It is `resume` for two, and spelt out since a repair does it for each set: where a list is dense, a
+    // call for each would take a third more time.
+    #[inline(always)]
     #[tactic(auto, using(crate::proofs::TailLaws::head_below, crate::proofs::TailLaws::second_below))]
-    fn resume_pair(self, u: usize, pos: &mut [u16]) -> bool
+    pub fn resume_pair(self, u: usize, pos: &mut [u16]) -> bool
         requires { ReadyFor self 0 u × (length pos.old ≡ 2) × Ascending (length self.powers.now) 0 pos.old }
         ensures { Resumed self.entry u pos.old result pos.new }
     {
@@ -133,9 +149,9 @@ impl<'a> Powers<'a> {
     // Goes on from the positions in `pos`, which need not have the sum `u`: to the first set of as many positions that
     // comes after them.
     #[tactic(auto, using(crate::proofs::TailLaws::head_below, crate::proofs::HeadLaws::first_after_empty))]
-    pub fn resume(self, u: usize, pos: &mut [u16]) -> bool
-        requires { ReadyFor self 0 u × Ascending (length self.powers.now) 0 pos.old }
-        ensures { Resumed self.entry u pos.old result pos.new }
+    pub fn resume(&self, u: usize, pos: &mut [u16]) -> bool
+        requires { ReadyFor self.now 0 u × Ascending (length self.now.powers.now) 0 pos.old }
+        ensures { Resumed self.now u pos.old result pos.new }
     {
         match pos.len() {
             0 => false,

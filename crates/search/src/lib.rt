@@ -43,7 +43,13 @@ fn resume_or_skip(generator: u64, powers: Powers, u: usize, pos: &mut [u16]) -> 
     requires { ReadyFor powers 0 u × Ascending (length powers.powers.now) 0 pos.old × OddOnes generator powers.powers.now }
     ensures { Resumed powers.entry u pos.old result pos.new }
 {
-    !ruled_out(generator, pos.len(), u) && powers.resume(u, pos)
+    if ruled_out(generator, pos.len(), u) {
+        return false; // nor is the set in `pos` then listed
+    }
+    if pos.len() == 2 {
+        return powers.resume_pair(u, pos);
+    }
+    powers.resume(u, pos)
 }
 
 // Rises through the counts from `count` to the length of `pos`: `step` looks for a set of as many positions as it is lent room for.

@@ -42,7 +42,7 @@ fn three_of_span(powers: Powers, span: usize, from: usize, u: usize, pos: &mut [
     for b in from + span..powers.powers.len() {
         let a = b - span;
         let v = left(powers, u, a, b);
-        if let Some(c) = powers.nearest_below(a + 1, b, v) {
+        if let Some(c) = powers.seldom_below(a + 1, b, v) {
             pos[0] = a as u16;
             pos[1] = c as u16;
             pos[2] = b as u16;

@@ -3,8 +3,8 @@ use Rattle.std.proofs.Common.{◌≡◌, true, length, refl, sym, ◌∙◌}
 use Rattle.search.proofs.ParityLaws.{none_after}
 use Rattle.search.proofs.resume_or_skip.Goals as goal
 
-pub returns-else-not-ruled_out : goal.returns-else-not-ruled_out
-returns-else-not-ruled_out c power t =
+pub returns-then-ruled_out : goal.returns-then-ruled_out
+returns-then-ruled_out c power t =
     let a = c.args in
-    let out : c.ruled_out.result ≡ true = c.if-not-ruled_out.false in
-    rw out (sym (none_after a.generator (length a.pos.now) a.u (sym c.ruled_out.ensures ∙ out) t c.requires.2 a.pos.now refl))
+    let out : c.ruled_out.result ≡ true = c.if-ruled_out.true in
+    sym (none_after a.generator (length a.pos.now) a.u (sym c.ruled_out.ensures ∙ out) t c.requires.2 a.pos.now refl)
