@@ -30,9 +30,10 @@ use Rattle.pages.proofs.PageTheorem.{page_accepts, page_holds, page_next, page_g
 use Rattle.lines.specs.Text.{text_of, end_line}
 use Rattle.lines.proofs.RecordLaws.{text_append}
 use Rattle.lister.specs.Printed.{unfit_listed, list_conditions, Prints}
-use Rattle.lister.specs.Turns.{WasRead, printed, ahead, text_due, turns_for, NotEnded, Going, Sound, Run, last, more}
+use Rattle.lister.specs.Turns.{WasRead, printed, ahead, text_due, turns_for, NotEnded, Going, Sound, Turned, Run, last, more}
 use Rattle.lister.specs.declared.Due.{Due}
 use Rattle.lister.specs.declared.Due.TheVariants.{Listing}
+use Rattle.lister.specs.declared.Turn.{Turn}
 use Rattle.patterns.specs.declared.Mark.{Mark}
 use Rattle.lister.proofs.PrintedLaws.{printed_prints}
 
@@ -130,6 +131,10 @@ module _ {s : Query} {m : Point} {count : ℕ} (going : Going s m count) where
           rw (whole, first, rest)
           (ap (λ (t : List ℕ). t ++ end_line (count + length xs)) split
           ∙ append_assoc (text_of (take w xs)) (text_of (drop w xs)) (end_line (count + length xs)))
+
+-- what a turn did, by its case
+pub turned_as : (due : Due) (steps firsts text : List ℕ) {r q : Turn} → r ≡ q → Turned due steps firsts text r → Turned due steps firsts text q
+turned_as due steps firsts text e h = rw e at h
 
 -- the texts of a run of turns, joined, are what was due
 pub run_prints : {steps firsts : List ℕ} {due : Due} {text : List ℕ} → Run steps firsts due text → text ≡ text_due due

@@ -41,9 +41,20 @@ placed_first p (Some a) b e n (y ∷ ys) h k =
     let here : positions a ≡ y = cc in
     rw (rw here at (b a refl)) (record { number = omega (arith, h); first = ap Some e })
 
+first_placed : (p : List ℕ) {t : Tally} {q : Pattern} → t.count ≡ 0 → positions q ≡ p → (ys : List (List ℕ)) → Tallied ys t
+    → Tallied (inserted before p ys) (record { count = t.count + 1; earliest = Some q })
+unfolding inserted
+first_placed p z e [] h = record { number = omega (arith, z); first = ap Some e }
+first_placed p z e (y ∷ ys) h = absurd (omega (arith, z, h.number))
+
 pub earliest-more : (p : List ℕ) {t : Tally} {n : ℕ} {q : Pattern} → n ≡ t.count + 1 → ((a : Pattern) → t.earliest ≡ Some a → before p (positions a) ≡ true) → positions q ≡ p
     → (kept : List (List ℕ)) → Tallied (in_order before kept) t → Tallied (in_order before (kept ++ p ∷ [])) (record { count = n; earliest = Some q })
 earliest-more p {t} c b e kept h = rw c (grown p kept (placed_first p t.earliest b e t.count (in_order before kept) h.number h.first))
+
+-- the first that passes, where none has
+pub first_passes : (p : List ℕ) {t : Tally} {q : Pattern} → t.count ≡ 0 → positions q ≡ p → (kept : List (List ℕ)) → Tallied (in_order before kept) t
+    → Tallied (in_order before (kept ++ p ∷ [])) (record { count = t.count + 1; earliest = Some q })
+first_passes p {t} z e kept h = grown p kept (first_placed p z e (in_order before kept) h)
 
 -- it stands behind the first
 stays_first : (p y : List ℕ) (ys : List (List ℕ)) → before p y ≡ false → first_of (inserted before p (y ∷ ys)) ≡ Some y
