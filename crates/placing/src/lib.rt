@@ -52,8 +52,8 @@ impl<'a> Powers<'a> {
         if p < end { Some(p) } else { None }
     }
 
-    // The same, for a loop in which `end` moves: that none is below the first position comes before all else, since the compiler finds
-    // no test so short in the two above.
+    // The same, for a loop in which `end` moves. It asks first whether the first position is at or past `end`, as it mostly is: the
+    // compiler finds no test so short in `nearest_below`.
     #[inline(always)]
     pub fn seldom_below(self, lo: usize, end: usize, u: usize) -> Option<usize>
         requires { ReadyFor self lo u × (lo ≤ end) × (end ≤ length self.powers.now) }
@@ -66,7 +66,7 @@ impl<'a> Powers<'a> {
         self.nearest_below(lo, end, u)
     }
 
-    // `nearest_below` the length of the powers.
+    // The same as `nearest_below`, below the length of the powers.
     pub fn nearest(self, lo: usize, u: usize) -> Option<usize>
         requires { ReadyFor self lo u }
         ensures { NearestFound self.entry (length self.entry.powers.now) lo u result }
